@@ -1,0 +1,12 @@
+pub mod ArrayLoops
+pub mod Arrays
+pub mod Filling
+pub mod FirstFault
+pub mod FrontSteps
+pub mod NodeWords
+pub mod PortSets
+pub mod Soundness
+pub mod TableCodec
+pub mod TableParts
+pub mod WordRuns
+pub mod Words

@@ -1,0 +1,11 @@
+use borrow.Author.Needs.{needs}
+use Rattle.table.specs.Wire.{field, word-at}
+use Rattle.table.proofs.reader.Reader.field.Needs as need
+
+pub returns-then-bytes-at-lt4 : need.returns-then-bytes-at-lt4
+unfolding field
+returns-then-bytes-at-lt4 c = search needs
+
+pub returns : need.returns
+unfolding field word-at
+returns c = search needs

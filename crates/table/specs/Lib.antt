@@ -1,0 +1,12 @@
+pub mod Figures
+pub mod Limits
+pub mod Nodes
+pub mod Numbers
+pub mod Ports
+pub mod Readers
+pub mod Refusals
+pub mod TableLaws
+pub mod Tables
+pub mod Views
+pub mod Wire
+pub mod Worked

@@ -1,0 +1,47 @@
+// The reader's calls.
+ghost use Prim.Native.Nat.{_+_};
+ghost use Rattle.std.specs.Results.{isOk};
+ghost use Rattle.table.specs.Wire.{field};
+ghost use mathlib.Core.Bool.{cond};
+ghost use mathlib.Core.Path.{_≡_};
+use crate::fault::Fault;
+use crate::fault::Reason;
+use crate::reader::Reader;
+
+impl<'a> Reader<'a> {
+    // A reader at the front of `bytes`.
+    pub fn new(bytes: &'a [u8], short: Reason) -> Reader<'a>
+        ensures bytes { λ r. ⌜ now (r .bytes) ≡ now (bytes .entry) ⌝ }
+        ensures at { λ r. ⌜ r .at ≡ 0 ⌝ }
+        ensures short { λ r. ⌜ r .short ≡ short ⌝ }
+    {
+        Reader { bytes, at: 0, short }
+    }
+
+    // The offset of the next field.
+    pub fn offset(&self) -> usize
+        ensures { λ r. ⌜ r ≡ now (self .entry) .at ⌝ }
+    {
+        self.at
+    }
+
+    // The next field, or the place where it is missing; the reader then stays there.
+    pub fn field(&mut self) -> Result<u32, Fault>
+        ensures value { λ r. ⌜ r ≡ field (now (self .entry) .short) (now (now (self .entry) .bytes)) (now (self .entry) .at) ⌝ }
+        ensures at { λ r. ⌜ now (self .exit) .at ≡ cond (isOk r) (now (self .entry) .at + 4) (now (self .entry) .at) ⌝ }
+        ensures bytes { λ _. ⌜ now (now (self .exit) .bytes) ≡ now (now (self .entry) .bytes) ⌝ }
+        ensures short { λ _. ⌜ now (self .exit) .short ≡ now (self .entry) .short ⌝ }
+    {
+        let at = self.at;
+        let bytes = self.bytes;
+        if bytes.len() - at < 4 {
+            return Err(Fault {
+                reason: self.short,
+                place: at,
+            });
+        }
+        let word = u32::from_be_bytes([bytes[at], bytes[at + 1], bytes[at + 2], bytes[at + 3]]);
+        self.at = at + 4;
+        Ok(word)
+    }
+}
