@@ -1,5 +1,5 @@
 -- What a checked table's place is filled with. Assumes nothing.
-use Prim.Native.Nat.{ℕ, suc, _-_, _≤_}
+use Prim.Native.Nat.{ℕ, suc, _+_, _-_, _*_, _≤_}
 use lib.ListN.{length, getD, take}
 use mathlib.Core.Bool.{true}
 use mathlib.Core.List.{List, [], _∷_}
@@ -10,10 +10,12 @@ use native.Mathlib.Omega.{arith}
 use Rattle.std.specs.declared.result.Result.the-variants.{Ok}
 use Rattle.table.specs.Figures.{table-with, Within}
 use Rattle.table.specs.TableLaws.{Bytes}
-use Rattle.table.specs.Tables.{Table, sound, table-bytes, table-front, table-length, table-of}
+use Rattle.std.proofs.shelf.Lists.{length-take-le}
+use Rattle.table.specs.Limits.{register-count}
+use Rattle.table.specs.Tables.{Table, sound, starts-start, table-bytes, table-front, table-length, table-of}
 use Rattle.table.specs.declared.node.Node.{Node}
 use Rattle.table.specs.declared.node.Rule.{Rule}
-use Rattle.table.specs.declared.table.check.Figures.{Figures}
+use Rattle.table.specs.declared.table.accept.Figures.{Figures}
 use Rattle.table.proofs.TableCodec.{accepts-front, take-starts}
 
 -- the bytes of a slice are bytes
@@ -36,3 +38,8 @@ module _ (code : ℕ) (bs : List ℕ) (f : Figures) (xs : List Node) (rs : List 
 
   pub filled-coded : table-bytes (table-of (take (f .length - 0) bs) (f .switches) (take (f .nodes) xs) (take (f .rules) rs)) ≡ take (f .length - 0) bs
   filled-coded = ap table-bytes filled-same ∙ accepts-front code bs bytes .only (table-with bs f xs rs) front .3 ∙ sym cut
+
+  pub filled-long : length (take (f .length - 0) bs) ≡ starts-start (f .nodes) (f .rules) + register-count * f .switches * 4
+  filled-long =
+      let inside : f .length - 0 ≤ length bs = omega (arith, within .inside) in
+      length-take-le _ bs inside ∙ omega (arith, within .sized)

@@ -6,7 +6,9 @@ pub mod FrontSteps
 pub mod NodeWords
 pub mod PortSets
 pub mod Soundness
+pub mod StartWords
 pub mod TableCodec
 pub mod TableParts
+pub mod TheLaws
 pub mod WordRuns
 pub mod Words

@@ -138,6 +138,8 @@ pub record Refuses-first (code : ℕ) (bs : List ℕ) : Type 0 where
   pub front : refusal (table-front code bs) ≡ first-fault (conditions code bs)
   pub alone : refusal (table-alone code bs) ≡ first-fault (conditions code bs ++ nothing-left bs ∷ [])
 
--- for every kind's code and all bytes
-abbrev pub Table-laws : Type 0
-Table-laws = (code : ℕ) (bs : List ℕ) → Bytes bs → Accepts-exactly code bs × Accepts-front code bs × Refuses-first code bs
+-- what holds of a kind's code and of all bytes
+pub record Table-laws (code : ℕ) (bs : List ℕ) : Type 0 where
+  pub exactly : Accepts-exactly code bs
+  pub front : Accepts-front code bs
+  pub first : Refuses-first code bs

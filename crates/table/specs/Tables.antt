@@ -1,7 +1,7 @@
 -- The rule table: its value, its bytes, and what reading the bytes answers. Assumes nothing.
 use Prim.Native.Nat.{ℕ, zero, suc, _+_, _*_, _^_}
 use lib.Dec.{eqb, leb, ltb}
-use lib.ListN.{length}
+use lib.ListN.{length, getD}
 use mathlib.Core.Bool.{Bool, true, false, cond, _&&_}
 use mathlib.Core.List.{List, [], _∷_, _++_}
 use Rattle.std.specs.declared.option.Option.{Option}
@@ -204,3 +204,7 @@ table-of bs n xs rs = record {
   rules = rs;
   starts = words-at bs (starts-start (length xs) (length rs)) (register-count * n);
 }
+
+-- the word that register g of switch s starts with
+abbrev pub start-word : Table → ℕ → ℕ → Option ℕ
+start-word t s g = cond (ltb s (t .switches) && ltb g register-count) (Some (getD (t .starts) (s * register-count + g) 0)) None

@@ -14,4 +14,5 @@ pub struct Reader<'a> {
     ghost inside: { at ≤ length (now bytes) },
 }
 
-pub mod fields;
+mod fields;
+pub use fields::word;

@@ -1,12 +1,21 @@
 // The reader's calls.
-ghost use Prim.Native.Nat.{_+_};
+ghost use Prim.Native.Nat.{_+_, _≤_};
 ghost use Rattle.std.specs.Results.{isOk};
-ghost use Rattle.table.specs.Wire.{field};
+ghost use Rattle.table.specs.Wire.{field, word-at};
+ghost use lib.ListN.{length};
 ghost use mathlib.Core.Bool.{cond};
 ghost use mathlib.Core.Path.{_≡_};
 use crate::fault::Fault;
 use crate::fault::Reason;
 use crate::reader::Reader;
+
+// The word at offset `at`.
+pub fn word(bytes: &[u8], at: usize) -> u32
+    requires { ⌜ at + 4 ≤ length (now bytes) ⌝ }
+    ensures { λ r. ⌜ r ≡ word-at (now (bytes .entry)) at ⌝ }
+{
+    u32::from_be_bytes([bytes[at], bytes[at + 1], bytes[at + 2], bytes[at + 3]])
+}
 
 impl<'a> Reader<'a> {
     // A reader at the front of `bytes`.
@@ -40,8 +49,7 @@ impl<'a> Reader<'a> {
                 place: at,
             });
         }
-        let word = u32::from_be_bytes([bytes[at], bytes[at + 1], bytes[at + 2], bytes[at + 3]]);
         self.at = at + 4;
-        Ok(word)
+        Ok(word(bytes, at))
     }
 }

@@ -1,5 +1,5 @@
 use borrow.Author.Needs.{needs}
-use Rattle.table.specs.Wire.{field, word-at}
+use Rattle.table.specs.Wire.{field}
 use Rattle.table.proofs.reader.Reader.field.Needs as need
 
 pub returns-then-bytes-at-lt4 : need.returns-then-bytes-at-lt4
@@ -7,5 +7,5 @@ unfolding field
 returns-then-bytes-at-lt4 c = search needs
 
 pub returns : need.returns
-unfolding field word-at
+unfolding field
 returns c = search needs

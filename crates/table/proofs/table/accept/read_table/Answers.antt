@@ -15,9 +15,10 @@ use Rattle.table.proofs.Filling.{slice-bytes}
 use Rattle.table.proofs.FrontSteps.{front-no-header, front-no-nodes, front-no-rules, front-no-starts, front-made, read-at}
 use Rattle.table.specs.Limits.{register-count}
 use Rattle.table.proofs.TableCodec.{front-starts, length-words-at}
-use Rattle.table.proofs.table.check.read_table.Given as given
-use Rattle.table.proofs.table.check.read_table.Needs as need
-use Rattle.table.proofs.table.check.read_table.Needs.{After-read-header, After-read-nodes, After-read-all-rules, After-read-starts}
+use Rattle.table.proofs.TheLaws.{table-laws}
+use Rattle.table.proofs.table.accept.read_table.Given as given
+use Rattle.table.proofs.table.accept.read_table.Needs as need
+use Rattle.table.proofs.table.accept.read_table.Needs.{After-read-header, After-read-nodes, After-read-all-rules, After-read-starts}
 
 -- what each call said, of the bytes that were handed in
 said-header : (g : given.Over) (c : After-read-header g) → header-of (g .K·Reading .code) (now (c .args .bytes)) ≡ c .read-header .result
@@ -52,7 +53,7 @@ pub returns-in-Break-header : need.returns-in-Break-header
 returns-in-Break-header g c =
     let p = err-from-errBy (c .from-residual .result) (c .from-residual .ensures .1) in
     let header = said-header g (need.at·returns-in-Break-header g c .After-read-header) ∙ c .in-Break-header .was tt in
-    rw (p .1, p .2) (record { value = sym (front-no-header _ _ _ header); figures = tt; bytes = slice-bytes _ (c .typed .bytes) })
+    rw (p .1, p .2) (record { value = sym (front-no-header _ _ _ header); figures = tt; bytes = slice-bytes _ (c .typed .bytes); laws = table-laws _ _ (slice-bytes _ (c .typed .bytes)) })
 
 pub returns-in-Break-read-nodes : need.returns-in-Break-read-nodes
 returns-in-Break-read-nodes g c =
@@ -60,7 +61,7 @@ returns-in-Break-read-nodes g c =
     let here = need.at·returns-in-Break-read-nodes g c in
     let header = said-header g (here .After-read-header) ∙ c .in-Continue-header .was tt in
     let nodes = said-nodes g (here .After-read-nodes) ∙ ap (λ r. filled r (take (c .in-Continue-header .header .nodes) (c .read-nodes .last .nodes))) (c .in-Break-read-nodes .was tt) in
-    rw (p .1, p .2) (record { value = sym (front-no-nodes _ _ _ header _ nodes); figures = tt; bytes = slice-bytes _ (c .typed .bytes) })
+    rw (p .1, p .2) (record { value = sym (front-no-nodes _ _ _ header _ nodes); figures = tt; bytes = slice-bytes _ (c .typed .bytes); laws = table-laws _ _ (slice-bytes _ (c .typed .bytes)) })
 
 pub returns-in-Break-rule-count : need.returns-in-Break-rule-count
 returns-in-Break-rule-count g c =
@@ -69,7 +70,7 @@ returns-in-Break-rule-count g c =
     let header = said-header g (here .After-read-header) ∙ c .in-Continue-header .was tt in
     let nodes = said-nodes g (here .After-read-nodes) ∙ ap (λ r. filled r (take (c .in-Continue-header .header .nodes) (c .read-nodes .last .nodes))) (c .in-Continue-read-nodes .was tt) in
     let rules = said-rules g (here .After-read-all-rules) ∙ ap (λ r. counted r (λ k. take k (c .read-all-rules .last .rules))) (c .in-Break-rule-count .was tt) in
-    rw (p .1, p .2) (record { value = sym (front-no-rules _ _ _ header _ nodes _ rules); figures = tt; bytes = slice-bytes _ (c .typed .bytes) })
+    rw (p .1, p .2) (record { value = sym (front-no-rules _ _ _ header _ nodes _ rules); figures = tt; bytes = slice-bytes _ (c .typed .bytes); laws = table-laws _ _ (slice-bytes _ (c .typed .bytes)) })
 
 pub returns-in-Break-read-starts : need.returns-in-Break-read-starts
 returns-in-Break-read-starts g c =
@@ -79,7 +80,7 @@ returns-in-Break-read-starts g c =
     let nodes = said-nodes g (here .After-read-nodes) ∙ ap (λ r. filled r (take (c .in-Continue-header .header .nodes) (c .read-nodes .last .nodes))) (c .in-Continue-read-nodes .was tt) in
     let rules = said-rules g (here .After-read-all-rules) ∙ ap (λ r. counted r (λ k. take k (c .read-all-rules .last .rules))) (c .in-Continue-rule-count .was tt) in
     let starts = said-starts g (here .After-read-starts) ∙ ap (λ r. filled r (words-at (c .read-all-rules .last .reader .bytes .now) (starts-start (c .in-Continue-header .header .nodes) (c .in-Continue-rule-count .rule-count)) (register-count * c .in-Continue-header .header .switches))) (c .in-Break-read-starts .was tt) in
-    rw (p .1, p .2) (record { value = sym (front-no-starts _ _ _ header _ nodes _ rules _ starts); figures = tt; bytes = slice-bytes _ (c .typed .bytes) })
+    rw (p .1, p .2) (record { value = sym (front-no-starts _ _ _ header _ nodes _ rules _ starts); figures = tt; bytes = slice-bytes _ (c .typed .bytes); laws = table-laws _ _ (slice-bytes _ (c .typed .bytes)) })
 
 pub returns : need.returns
 returns g c =
@@ -102,8 +103,10 @@ returns g c =
         few-switches = c .in-Continue-header .ensures tt .range .0;
         few-nodes = c .in-Continue-header .ensures tt .range .1;
         few-rules = c .in-Continue-rule-count .ensures tt .few;
+        sized = end;
         length-is = end ∙ sym ((λ i. starts-start (many-nodes g read i) (many-rules g read i) + length-words-at (now (c .args .bytes)) (starts-start (length (take (c .in-Continue-header .header .nodes) (c .read-nodes .last .nodes))) (length (take (c .in-Continue-rule-count .rule-count) (c .read-all-rules .last .rules)))) (register-count * c .in-Continue-header .header .switches) i * 4));
         inside = subst (λ b. c .offset .result ≤ length b) last (subst (λ k. k ≤ length (now (c .read-starts .last .reader .bytes))) (sym (c .offset .ensures)) (c .read-starts .last .reader .inside));
       };
       bytes = slice-bytes _ (c .typed .bytes);
+      laws = table-laws _ _ (slice-bytes _ (c .typed .bytes));
     }

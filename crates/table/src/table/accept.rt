@@ -2,9 +2,10 @@
 ghost use Prim.Native.Nat.{_≤_};
 ghost use Rattle.std.specs.Results.{isOk};
 ghost use Rattle.std.specs.Vec.{made};
+ghost use Rattle.table.specs.Delivered.{named-kind};
 ghost use Rattle.table.specs.Figures.{table-with, Within};
 ghost use Rattle.table.specs.Limits.{max-nodes, max-rules};
-ghost use Rattle.table.specs.TableLaws.{Bytes};
+ghost use Rattle.table.specs.TableLaws.{Bytes, Table-laws};
 ghost use Rattle.table.specs.Tables.{table-alone, table-front, table-length};
 ghost use Rattle.table.specs.Views.{view};
 ghost use Rattle.table.specs.Wire.{counted, filled};
@@ -14,6 +15,7 @@ ghost use mathlib.Core.Bool.{true, false};
 ghost use mathlib.Core.Path.{_≡_};
 use crate::fault::Fault;
 use crate::fault::Reason;
+use crate::kind::Kind;
 use crate::node::Node;
 use crate::node::Rule;
 use crate::reader::Reader;
@@ -30,6 +32,21 @@ impl<'a> Draft<'a> {
         ensures { λ r. ⌜ now (r .bytes) ≡ now (bytes .entry) ⌝ }
     {
         Draft { bytes }
+    }
+
+    // The delivered kind that the first field names.
+    pub fn kind(&self) -> Result<Kind, Fault>
+        ensures { λ r. ⌜ r ≡ named-kind (now (now (self .entry) .bytes)) ⌝ }
+    {
+        let mut reader = Reader::new(self.bytes, Reason::TableLength);
+        let code = reader.field()?;
+        match Kind::of_code(code) {
+            Some(kind) => Ok(kind),
+            None => Err(Fault {
+                reason: Reason::TableField,
+                place: 0,
+            }),
+        }
     }
 }
 
@@ -53,6 +70,7 @@ fn read_table<K: Reading>(
     ensures value { λ r. ⌜ counted r (λ f. table-with (now (bytes .entry)) f (now (nodes .exit)) (now (rules .exit))) ≡ table-front code (now (bytes .entry)) ⌝ }
     ensures figures { λ r. ⌜ made r (λ f. Within f (table-with (now (bytes .entry)) f (now (nodes .exit)) (now (rules .exit))) (length (now (bytes .entry)))) ⌝ }
     ensures bytes { λ _. ⌜ Bytes (now (bytes .entry)) ⌝ }
+    ensures laws { λ _. ⌜ Table-laws code (now (bytes .entry)) ⌝ }
 {
     let mut reader = Reader::new(bytes, Reason::TableLength);
     let header = read_header::<K>(&mut reader)?;
@@ -98,6 +116,7 @@ pub fn check<'a, K: Reading>(draft: Draft<'a>, place: &mut Checked<'a>) -> Resul
     ensures value { λ r. ⌜ filled r (view (now (place .exit))) ≡ table-alone code (now (draft .entry .bytes)) ⌝ }
     ensures bytes { λ r. ⌜ (isOk r ≡ true → now (now (place .exit) .bytes) ≡ now (draft .entry .bytes)) ⌝ }
     ensures kept { λ r. ⌜ (isOk r ≡ false → now (place .exit) ≡ now (place .entry)) ⌝ }
+    ensures laws { λ _. ⌜ Table-laws code (now (draft .entry .bytes)) ⌝ }
 {
     let bytes = draft.bytes;
     let mut nodes = [Node::Truth(false); 48];
@@ -123,6 +142,7 @@ pub fn check_front<'a, K: Reading>(
     ensures length { λ r. ⌜ made r (λ n. n ≡ table-length (view (now (place .exit)))) ⌝ }
     ensures bytes { λ r. ⌜ made r (λ n. now (now (place .exit) .bytes) ≡ take n (now (draft .entry .bytes))) ⌝ }
     ensures kept { λ r. ⌜ (isOk r ≡ false → now (place .exit) ≡ now (place .entry)) ⌝ }
+    ensures laws { λ _. ⌜ Table-laws code (now (draft .entry .bytes)) ⌝ }
 {
     let bytes = draft.bytes;
     let mut nodes = [Node::Truth(false); 48];

@@ -4,8 +4,8 @@ use denote.Ref.{now}
 use lib.ListN.{take}
 use mathlib.Core.Path.{_≡_, ap}
 use Rattle.std.proofs.shelf.Lists.{take-all}
-use Rattle.table.proofs.Filling.{filled-same, filled-sound, filled-coded}
-use Rattle.table.proofs.table.check.fill.Needs as need
+use Rattle.table.proofs.Filling.{filled-same, filled-long, filled-sound, filled-coded}
+use Rattle.table.proofs.table.accept.fill.Needs as need
 
 pub ghost-place : need.ghost-place
 ghost-place g c =
@@ -19,8 +19,11 @@ ghost-place g c =
         (
           c .pre .1 .0 .few-rules,
           (
-            filled-sound code bs f (c .args .nodes) (c .args .rules) (c .pre .1 .1) (c .pre .0) (c .pre .1 .0),
-            (filled-coded code bs f (c .args .nodes) (c .args .rules) (c .pre .1 .1) (c .pre .0) (c .pre .1 .0), tt),
+            filled-long code bs f (c .args .nodes) (c .args .rules) (c .pre .1 .1) (c .pre .0) (c .pre .1 .0),
+            (
+              filled-sound code bs f (c .args .nodes) (c .args .rules) (c .pre .1 .1) (c .pre .0) (c .pre .1 .0),
+              (filled-coded code bs f (c .args .nodes) (c .args .rules) (c .pre .1 .1) (c .pre .0) (c .pre .1 .0), tt),
+            ),
           ),
         ),
       ),
