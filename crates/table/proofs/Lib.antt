@@ -4,6 +4,7 @@ pub mod Filling
 pub mod FirstFault
 pub mod FrontSteps
 pub mod NodeWords
+pub mod Places
 pub mod PortSets
 pub mod Soundness
 pub mod StartWords

@@ -1,5 +1,5 @@
 -- The delivered kinds of reading, picked by a table's code. Assumes nothing.
-use Prim.Native.Nat.{ℕ, _+_, _*_}
+use Prim.Native.Nat.{ℕ}
 use lib.Dec.{eqb}
 use mathlib.Core.Bool.{cond}
 use mathlib.Core.List.{List}
@@ -9,7 +9,7 @@ use Rattle.std.specs.declared.result.Result.{Result}
 use Rattle.std.specs.declared.result.Result.the-variants.{Ok, Err}
 use Rattle.table.specs.Numbers.{number-code}
 use Rattle.table.specs.Ports.{port-code}
-use Rattle.table.specs.Refusals.{number}
+use Rattle.table.specs.Refusals.{answer}
 use Rattle.table.specs.Tables.{Table, table-alone}
 use Rattle.table.specs.Wire.{and-then, field, refuse}
 use Rattle.table.specs.declared.fault.Fault.{Fault}
@@ -36,7 +36,7 @@ named-kind bs = and-then (field why.TableLength bs 0) (λ code. or-foreign (kind
 abbrev pub delivered : List ℕ → Result Table Fault
 delivered bs = and-then (named-kind bs) (λ k. table-alone (kind-code k) bs)
 
--- the answer of a call for C: 0, or the place times 256 and the refusal's number
+-- the answer of a call for C: 0, or the refusal
 abbrev pub packed : {A : Type 0} → Result A Fault → ℕ
 packed (Ok x) = 0
-packed (Err e) = e .place * 256 + number (e .reason)
+packed (Err e) = answer e

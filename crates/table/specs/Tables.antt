@@ -184,6 +184,10 @@ table-front code bs =
 abbrev pub table-length : Table → ℕ
 table-length t = starts-start (length (t .nodes)) (length (t .rules)) + length (t .starts) * 4
 
+-- the length of the longest table's bytes
+abbrev pub longest-table : ℕ
+longest-table = starts-start max-nodes max-rules + register-count * max-switches * 4
+
 -- the table that is all of bs
 abbrev pub table-alone : ℕ → List ℕ → Result Table Fault
 table-alone code bs =

@@ -1,7 +1,9 @@
 // The delivered kinds of reading, picked by a table's code.
+ghost use Prim.Native.Nat.{_≤_};
 ghost use Rattle.std.specs.Results.{isOk};
-ghost use Rattle.std.specs.Vec.{made};
+ghost use Rattle.std.specs.Vec.{made, refused};
 ghost use Rattle.table.specs.Delivered.{delivered, kind-code, kind-of, named-kind};
+ghost use Rattle.table.specs.Tables.{longest-table};
 ghost use Rattle.table.specs.Views.{view};
 ghost use Rattle.table.specs.Wire.{counted};
 ghost use mathlib.Core.Bool.{false};
@@ -42,6 +44,7 @@ impl Kind {
 pub fn check_delivered<'a>(draft: Draft<'a>, place: &mut Checked<'a>) -> Result<Kind, Fault>
     ensures value { λ r. ⌜ counted r (λ kind. view (now (place .exit))) ≡ delivered (now (draft .entry .bytes)) ⌝ }
     ensures kind { λ r. ⌜ made r (λ kind. view (now (place .exit)) .code ≡ kind-code kind) ⌝ }
+    ensures places { λ r. ⌜ refused r (λ e. e .place ≤ longest-table) ⌝ }
     ensures kept { λ r. ⌜ (isOk r ≡ false → now (place .exit) ≡ now (place .entry)) ⌝ }
 {
     let kind = draft.kind()?;

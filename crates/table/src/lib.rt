@@ -1,5 +1,6 @@
 // The rule table and the readings that its registers hold.
 pub mod fault;
+pub mod firmware;
 pub mod kind;
 pub mod limits;
 pub mod node;

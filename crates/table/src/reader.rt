@@ -15,4 +15,5 @@ pub struct Reader<'a> {
 }
 
 mod fields;
+
 pub use fields::word;

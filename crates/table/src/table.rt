@@ -6,14 +6,16 @@ ghost use denote.Ref.{now};
 ghost use lib.ListN.{length, take};
 ghost use mathlib.Core.Bool.{true};
 ghost use mathlib.Core.Path.{_≡_};
+
 mod accept;
 mod access;
 mod parse;
 mod worked;
-pub use accept::check;
-pub use accept::check_front;
+
 use crate::node::Node;
 use crate::node::Rule;
+pub use accept::check;
+pub use accept::check_front;
 
 // The bytes of a table that nobody has checked.
 #[derive(Drop)]

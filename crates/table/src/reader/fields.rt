@@ -1,6 +1,7 @@
 // The reader's calls.
 ghost use Prim.Native.Nat.{_+_, _≤_};
 ghost use Rattle.std.specs.Results.{isOk};
+ghost use Rattle.std.specs.Vec.{refused};
 ghost use Rattle.table.specs.Wire.{field, word-at};
 ghost use lib.ListN.{length};
 ghost use mathlib.Core.Bool.{cond};
@@ -24,7 +25,11 @@ impl<'a> Reader<'a> {
         ensures at { λ r. ⌜ r .at ≡ 0 ⌝ }
         ensures short { λ r. ⌜ r .short ≡ short ⌝ }
     {
-        Reader { bytes, at: 0, short }
+        Reader {
+            bytes,
+            at: 0,
+            short,
+        }
     }
 
     // The offset of the next field.
@@ -37,6 +42,7 @@ impl<'a> Reader<'a> {
     // The next field, or the place where it is missing; the reader then stays there.
     pub fn field(&mut self) -> Result<u32, Fault>
         ensures value { λ r. ⌜ r ≡ field (now (self .entry) .short) (now (now (self .entry) .bytes)) (now (self .entry) .at) ⌝ }
+        ensures missing { λ r. ⌜ refused r (λ e. e .place ≡ now (self .entry) .at) ⌝ }
         ensures at { λ r. ⌜ now (self .exit) .at ≡ cond (isOk r) (now (self .entry) .at + 4) (now (self .entry) .at) ⌝ }
         ensures bytes { λ _. ⌜ now (now (self .exit) .bytes) ≡ now (now (self .entry) .bytes) ⌝ }
         ensures short { λ _. ⌜ now (self .exit) .short ≡ now (self .entry) .short ⌝ }

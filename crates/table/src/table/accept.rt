@@ -1,12 +1,12 @@
 // Turns a draft into a checked table.
 ghost use Prim.Native.Nat.{_≤_};
 ghost use Rattle.std.specs.Results.{isOk};
-ghost use Rattle.std.specs.Vec.{made};
+ghost use Rattle.std.specs.Vec.{made, refused};
 ghost use Rattle.table.specs.Delivered.{named-kind};
 ghost use Rattle.table.specs.Figures.{table-with, Within};
 ghost use Rattle.table.specs.Limits.{max-nodes, max-rules};
 ghost use Rattle.table.specs.TableLaws.{Bytes, Table-laws};
-ghost use Rattle.table.specs.Tables.{table-alone, table-front, table-length};
+ghost use Rattle.table.specs.Tables.{longest-table, table-alone, table-front, table-length};
 ghost use Rattle.table.specs.Views.{view};
 ghost use Rattle.table.specs.Wire.{counted, filled};
 ghost use Rattle.std.specs.declared.result.Result.the-variants.{Ok};
@@ -36,7 +36,8 @@ impl<'a> Draft<'a> {
 
     // The delivered kind that the first field names.
     pub fn kind(&self) -> Result<Kind, Fault>
-        ensures { λ r. ⌜ r ≡ named-kind (now (now (self .entry) .bytes)) ⌝ }
+        ensures value { λ r. ⌜ r ≡ named-kind (now (now (self .entry) .bytes)) ⌝ }
+        ensures places { λ r. ⌜ refused r (λ e. e .place ≡ 0) ⌝ }
     {
         let mut reader = Reader::new(self.bytes, Reason::TableLength);
         let code = reader.field()?;
@@ -71,6 +72,7 @@ fn read_table<K: Reading>(
     ensures figures { λ r. ⌜ made r (λ f. Within f (table-with (now (bytes .entry)) f (now (nodes .exit)) (now (rules .exit))) (length (now (bytes .entry)))) ⌝ }
     ensures bytes { λ _. ⌜ Bytes (now (bytes .entry)) ⌝ }
     ensures laws { λ _. ⌜ Table-laws code (now (bytes .entry)) ⌝ }
+    ensures places { λ r. ⌜ refused r (λ e. e .place ≤ longest-table) ⌝ }
 {
     let mut reader = Reader::new(bytes, Reason::TableLength);
     let header = read_header::<K>(&mut reader)?;
@@ -117,6 +119,7 @@ pub fn check<'a, K: Reading>(draft: Draft<'a>, place: &mut Checked<'a>) -> Resul
     ensures bytes { λ r. ⌜ (isOk r ≡ true → now (now (place .exit) .bytes) ≡ now (draft .entry .bytes)) ⌝ }
     ensures kept { λ r. ⌜ (isOk r ≡ false → now (place .exit) ≡ now (place .entry)) ⌝ }
     ensures laws { λ _. ⌜ Table-laws code (now (draft .entry .bytes)) ⌝ }
+    ensures places { λ r. ⌜ refused r (λ e. e .place ≤ longest-table) ⌝ }
 {
     let bytes = draft.bytes;
     let mut nodes = [Node::Truth(false); 48];
@@ -143,6 +146,7 @@ pub fn check_front<'a, K: Reading>(
     ensures bytes { λ r. ⌜ made r (λ n. now (now (place .exit) .bytes) ≡ take n (now (draft .entry .bytes))) ⌝ }
     ensures kept { λ r. ⌜ (isOk r ≡ false → now (place .exit) ≡ now (place .entry)) ⌝ }
     ensures laws { λ _. ⌜ Table-laws code (now (draft .entry .bytes)) ⌝ }
+    ensures places { λ r. ⌜ refused r (λ e. e .place ≤ longest-table) ⌝ }
 {
     let bytes = draft.bytes;
     let mut nodes = [Node::Truth(false); 48];

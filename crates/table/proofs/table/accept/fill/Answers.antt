@@ -11,8 +11,7 @@ pub ghost-place : need.ghost-place
 ghost-place g c =
     let code = g .K·Reading .code in
     let bs = now (c .args .bytes) in
-    let f = c .args .figures in
-    (
+    let f = c .args .figures in (
       c .pre .1 .0 .few-switches,
       (
         c .pre .1 .0 .few-nodes,

@@ -14,6 +14,7 @@ use Rattle.table.specs.Wire.{counted, filled}
 use Rattle.table.proofs.Filling.{slice-bytes}
 use Rattle.table.proofs.FrontSteps.{front-no-header, front-no-nodes, front-no-rules, front-no-starts, front-made, read-at}
 use Rattle.table.specs.Limits.{register-count}
+use Rattle.table.proofs.Places.{front-place}
 use Rattle.table.proofs.TableCodec.{front-starts, length-words-at}
 use Rattle.table.proofs.TheLaws.{table-laws}
 use Rattle.table.proofs.table.accept.read_table.Given as given
@@ -53,7 +54,8 @@ pub returns-in-Break-header : need.returns-in-Break-header
 returns-in-Break-header g c =
     let p = err-from-errBy (c .from-residual .result) (c .from-residual .ensures .1) in
     let header = said-header g (need.at·returns-in-Break-header g c .After-read-header) ∙ c .in-Break-header .was tt in
-    rw (p .1, p .2) (record { value = sym (front-no-header _ _ _ header); figures = tt; bytes = slice-bytes _ (c .typed .bytes); laws = table-laws _ _ (slice-bytes _ (c .typed .bytes)) })
+    let stopped = front-no-header _ _ _ header in
+    rw (p .1, p .2) (record { value = sym stopped; figures = tt; bytes = slice-bytes _ (c .typed .bytes); laws = table-laws _ _ (slice-bytes _ (c .typed .bytes)); places = front-place _ _ _ stopped })
 
 pub returns-in-Break-read-nodes : need.returns-in-Break-read-nodes
 returns-in-Break-read-nodes g c =
@@ -61,7 +63,8 @@ returns-in-Break-read-nodes g c =
     let here = need.at·returns-in-Break-read-nodes g c in
     let header = said-header g (here .After-read-header) ∙ c .in-Continue-header .was tt in
     let nodes = said-nodes g (here .After-read-nodes) ∙ ap (λ r. filled r (take (c .in-Continue-header .header .nodes) (c .read-nodes .last .nodes))) (c .in-Break-read-nodes .was tt) in
-    rw (p .1, p .2) (record { value = sym (front-no-nodes _ _ _ header _ nodes); figures = tt; bytes = slice-bytes _ (c .typed .bytes); laws = table-laws _ _ (slice-bytes _ (c .typed .bytes)) })
+    let stopped = front-no-nodes _ _ _ header _ nodes in
+    rw (p .1, p .2) (record { value = sym stopped; figures = tt; bytes = slice-bytes _ (c .typed .bytes); laws = table-laws _ _ (slice-bytes _ (c .typed .bytes)); places = front-place _ _ _ stopped })
 
 pub returns-in-Break-rule-count : need.returns-in-Break-rule-count
 returns-in-Break-rule-count g c =
@@ -70,7 +73,8 @@ returns-in-Break-rule-count g c =
     let header = said-header g (here .After-read-header) ∙ c .in-Continue-header .was tt in
     let nodes = said-nodes g (here .After-read-nodes) ∙ ap (λ r. filled r (take (c .in-Continue-header .header .nodes) (c .read-nodes .last .nodes))) (c .in-Continue-read-nodes .was tt) in
     let rules = said-rules g (here .After-read-all-rules) ∙ ap (λ r. counted r (λ k. take k (c .read-all-rules .last .rules))) (c .in-Break-rule-count .was tt) in
-    rw (p .1, p .2) (record { value = sym (front-no-rules _ _ _ header _ nodes _ rules); figures = tt; bytes = slice-bytes _ (c .typed .bytes); laws = table-laws _ _ (slice-bytes _ (c .typed .bytes)) })
+    let stopped = front-no-rules _ _ _ header _ nodes _ rules in
+    rw (p .1, p .2) (record { value = sym stopped; figures = tt; bytes = slice-bytes _ (c .typed .bytes); laws = table-laws _ _ (slice-bytes _ (c .typed .bytes)); places = front-place _ _ _ stopped })
 
 pub returns-in-Break-read-starts : need.returns-in-Break-read-starts
 returns-in-Break-read-starts g c =
@@ -80,7 +84,8 @@ returns-in-Break-read-starts g c =
     let nodes = said-nodes g (here .After-read-nodes) ∙ ap (λ r. filled r (take (c .in-Continue-header .header .nodes) (c .read-nodes .last .nodes))) (c .in-Continue-read-nodes .was tt) in
     let rules = said-rules g (here .After-read-all-rules) ∙ ap (λ r. counted r (λ k. take k (c .read-all-rules .last .rules))) (c .in-Continue-rule-count .was tt) in
     let starts = said-starts g (here .After-read-starts) ∙ ap (λ r. filled r (words-at (c .read-all-rules .last .reader .bytes .now) (starts-start (c .in-Continue-header .header .nodes) (c .in-Continue-rule-count .rule-count)) (register-count * c .in-Continue-header .header .switches))) (c .in-Break-read-starts .was tt) in
-    rw (p .1, p .2) (record { value = sym (front-no-starts _ _ _ header _ nodes _ rules _ starts); figures = tt; bytes = slice-bytes _ (c .typed .bytes); laws = table-laws _ _ (slice-bytes _ (c .typed .bytes)) })
+    let stopped = front-no-starts _ _ _ header _ nodes _ rules _ starts in
+    rw (p .1, p .2) (record { value = sym stopped; figures = tt; bytes = slice-bytes _ (c .typed .bytes); laws = table-laws _ _ (slice-bytes _ (c .typed .bytes)); places = front-place _ _ _ stopped })
 
 pub returns : need.returns
 returns g c =
@@ -109,4 +114,5 @@ returns g c =
       };
       bytes = slice-bytes _ (c .typed .bytes);
       laws = table-laws _ _ (slice-bytes _ (c .typed .bytes));
+      places = tt;
     }

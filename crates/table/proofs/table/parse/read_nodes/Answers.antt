@@ -19,22 +19,21 @@ pub returns-in-Break-nodes : need.returns-in-Break-nodes
 returns-in-Break-nodes c =
     let p = err-from-errBy (c .from-residual .result) (c .from-residual .ensures .1) in
     let stopped = items-stop (node-at (c .args .switches) (now (c .args .reader .now .bytes))) node-size (c .loop-i .reader .at) (c .loop-i .i) (c .args .count) _ _ (c .loop-i-test .taken)
-        (read-there (node-at (c .args .switches)) _ _ _ (c .loop-i .i) (c .loop-i .nodes) _ _ (c .loop-i .inv .0) (c .read-node .ensures .value) (c .in-Break-nodes .was tt)) in
+    (read-there (node-at (c .args .switches)) _ _ _ (c .loop-i .i) (c .loop-i .nodes) _ _ (c .loop-i .inv .0) (c .read-node .ensures .value) (c .in-Break-nodes .was tt)) in
     rw (p .1, p .2) (record { value = sym stopped ∙ c .loop-i .inv .4; reader = search needs })
 
 pub loop-i-again : need.loop-i-again
 loop-i-again c =
     let well : isOk (c .read-node .result) ≡ true = ap isOk (c .in-Continue-nodes .was tt) in
     let moved : c .read-node .last .reader .at ≡ c .loop-i .reader .at + node-size = c .read-node .ensures .reader .at well in
-    let within : c .loop-i .i < length (c .loop-i .nodes) = omega arith in
-    (
+    let within : c .loop-i .i < length (c .loop-i .nodes) = omega arith in (
       search needs,
       search needs,
       omega arith,
       search needs,
       filled-more (node-at (c .args .switches) (now (c .args .reader .now .bytes))) node-size _ _ (c .loop-i .i) (c .args .count) _ _ _ (c .loop-i-test .taken) within
-      (read-there (node-at (c .args .switches)) _ _ _ (c .loop-i .i) (c .loop-i .nodes) _ _ (c .loop-i .inv .0) (c .read-node .ensures .value) (c .in-Continue-nodes .was tt))
-      moved (c .loop-i .inv .4),
+          (read-there (node-at (c .args .switches)) _ _ _ (c .loop-i .i) (c .loop-i .nodes) _ _ (c .loop-i .inv .0) (c .read-node .ensures .value) (c .in-Continue-nodes .was tt))
+          moved (c .loop-i .inv .4),
     )
 
 pub returns : need.returns

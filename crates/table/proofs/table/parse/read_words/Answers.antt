@@ -31,8 +31,7 @@ loop-i-holds c =
 pub loop-i-again : need.loop-i-again
 loop-i-again c =
     let reads : field TableLength (now (c .args .reader .now .bytes)) (c .loop-i .reader .at) ≡ Ok (c .in-Continue-field .field-0) = search needs in
-    let moved : c .field .last .self .at ≡ c .loop-i .reader .at + 4 = c .in-Continue-field .ensures tt .at in
-    (
+    let moved : c .field .last .self .at ≡ c .loop-i .reader .at + 4 = c .in-Continue-field .ensures tt .at in (
       search needs,
       search needs,
       omega arith,
