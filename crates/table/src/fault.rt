@@ -13,6 +13,22 @@ pub enum Reason {
     Node,
     // A rule's switch or node is out of range, or its node is no truth node.
     Rule,
+    // Memory, hand, table or carrier of the wrong shape.
+    Shape,
+    // The fleet is shut.
+    Shut,
+    // A switch that the table lacks.
+    Switch,
+    // A register or node number that is too large.
+    Operand,
+    // No space in the carrier.
+    Full,
+    // The copy is not held.
+    NotHeld,
+    // The own count cannot grow.
+    Count,
+    // Bytes of a copy that are short, left over, or not as given.
+    Copy,
 }
 
 impl Reason {
@@ -25,6 +41,14 @@ impl Reason {
             Reason::TableField => 2,
             Reason::Node => 3,
             Reason::Rule => 4,
+            Reason::Shape => 5,
+            Reason::Shut => 6,
+            Reason::Switch => 7,
+            Reason::Operand => 8,
+            Reason::Full => 9,
+            Reason::NotHeld => 10,
+            Reason::Count => 11,
+            Reason::Copy => 12,
         }
     }
 }

@@ -1,0 +1,1 @@
+// One switch's step: what it does with one event, over the words of its block.
