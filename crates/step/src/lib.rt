@@ -1,1 +1,5 @@
 // One switch's step: what it does with one event, over the words of its block.
+pub mod advance;
+mod records;
+pub mod sight;
+mod words;

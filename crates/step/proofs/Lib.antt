@@ -1,0 +1,7 @@
+pub mod Masks
+pub mod NewWords
+pub mod OwnRecord
+pub mod Ready
+pub mod Rows
+pub mod TableNames
+pub mod Takeover

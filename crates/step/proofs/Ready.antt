@@ -1,0 +1,44 @@
+-- What working out the words of a block needs, from a sound table. Assumes nothing.
+use Prim.Native.Nat.{ℕ, _+_, _-_, _*_, _≤_}
+use lib.ListN.{length, take, drop, length-take, length-drop}
+use mathlib.Core.Bool.{true}
+use mathlib.Core.List.{List, []}
+use mathlib.Core.Path.{_≡_, refl, sym, ap, subst, _∙_}
+use native.Mathlib.Omega.{arith}
+use Rattle.std.proofs.shelf.Lists.{length-take-le}
+use Rattle.table.specs.Limits.{max-rules, max-nodes}
+use Rattle.table.specs.Tables.{Table, sound}
+use Rattle.table.specs.declared.node.Node.{Node}
+use Rattle.table.specs.declared.node.Rule.{Rule}
+use Rattle.table.proofs.Soundness.{sound-parts, sound-limits}
+use Rattle.step.specs.Names.{all-named, rules-below}
+use Rattle.step.specs.Places.{Placed}
+use Rattle.step.specs.Steps.{Fitting}
+use Rattle.step.proofs.TableNames.{sound-named, sound-rules}
+
+module _ (t : Table) (is-sound : sound t ≡ true) where
+  pub nodes-few : (xs : List Node) → xs ≡ t .nodes → length xs ≤ max-nodes
+  nodes-few xs q = subst (λ l. length l ≤ max-nodes) (sym q) (sound-limits t (sound-parts t is-sound) .few-nodes)
+
+  pub rules-ready : (rs : List Rule) (m : ℕ) → rs ≡ t .rules → m ≡ length (t .nodes) → (length rs ≤ max-rules) × (rules-below m rs ≡ true)
+  rules-ready rs m p q =
+      let parts = sound-parts t is-sound in
+      (
+        subst (λ l. length l ≤ max-rules) (sym p) (sound-limits t parts .few-rules),
+        ap (λ k. rules-below k rs) q ∙ ap (rules-below (length (t .nodes))) p ∙ sound-rules (t .switches) (t .nodes) (t .rules) (parts .rules),
+      )
+
+  module _ (s : ℕ) (block : List ℕ) (fitting : Fitting t s block) (n : ℕ) (xs : List Node) (p : n ≡ t .switches) (q : xs ≡ t .nodes) where
+    pub placed : Placed (record { switch = s; switches = n; nodes = length xs }) block (take (n * (length xs + 1) + 8 - n * (length xs + 1)) (drop (n * (length xs + 1)) block))
+    placed =
+        let many : length xs ≡ length (t .nodes) = ap length q in
+        let room : n * (length xs + 1) ≡ t .switches * (length (t .nodes) + 1) = (λ i. p i * (many i + 1)) in
+        let eight : n * (length xs + 1) + 8 - n * (length xs + 1) ≤ length (drop (n * (length xs + 1)) block) = omega (arith, room, fitting .shape, length-drop (n * (length xs + 1)) block) in
+        record {
+          there = omega (arith, fitting .there, p);
+          room = omega (arith, room, fitting .shape);
+          own = omega (arith, length-take-le _ (drop (n * (length xs + 1)) block) eight);
+        }
+
+    pub all-ready : all-named n 0 xs ≡ true
+    all-ready = (λ i. all-named (p i) 0 (q i)) ∙ sound-named (t .switches) [] (t .nodes) (sound-parts t is-sound .nodes)
