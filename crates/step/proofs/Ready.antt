@@ -6,14 +6,15 @@ use mathlib.Core.List.{List, []}
 use mathlib.Core.Path.{_≡_, refl, sym, ap, subst, _∙_}
 use native.Mathlib.Omega.{arith}
 use Rattle.std.proofs.shelf.Lists.{length-take-le}
-use Rattle.table.specs.Limits.{max-rules, max-nodes}
+use Rattle.table.specs.Limits.{max-rules, max-nodes, register-count}
 use Rattle.table.specs.Tables.{Table, sound}
 use Rattle.table.specs.declared.node.Node.{Node}
 use Rattle.table.specs.declared.node.Rule.{Rule}
 use Rattle.table.proofs.Soundness.{sound-parts, sound-limits}
 use Rattle.step.specs.Names.{all-named, rules-below}
 use Rattle.step.specs.Places.{Placed}
-use Rattle.step.specs.Steps.{Fitting}
+use Rattle.step.specs.Nodes.{Word-kind}
+use Rattle.step.specs.Steps.{Fitting, new-words, own-words}
 use Rattle.step.proofs.TableNames.{sound-named, sound-rules}
 
 module _ (t : Table) (is-sound : sound t ≡ true) where
@@ -42,3 +43,10 @@ module _ (t : Table) (is-sound : sound t ≡ true) where
 
     pub all-ready : all-named n 0 xs ≡ true
     all-ready = (λ i. all-named (p i) 0 (q i)) ∙ sound-named (t .switches) [] (t .nodes) (sound-parts t is-sound .nodes)
+
+    -- the words worked out are the own words of the table
+    pub words-same : (k : Word-kind) → new-words k (length xs) s block (take (n * (length xs + 1) + 8 - n * (length xs + 1)) (drop (n * (length xs + 1)) block)) xs [] ≡ own-words k t s block
+    words-same k =
+        let eight : t .switches * (length (t .nodes) + 1) + 8 - t .switches * (length (t .nodes) + 1) ≡ register-count = omega arith in
+        (λ i. new-words k (length (q i)) s block (take (p i * (length (q i) + 1) + 8 - p i * (length (q i) + 1)) (drop (p i * (length (q i) + 1)) block)) (q i) [])
+        ∙ ap (λ z. new-words k (length (t .nodes)) s block (take z (drop (t .switches * (length (t .nodes) + 1)) block)) (t .nodes) []) eight

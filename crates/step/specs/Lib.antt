@@ -1,3 +1,4 @@
+pub mod Events
 pub mod Names
 pub mod Nodes
 pub mod Places

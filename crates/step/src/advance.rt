@@ -40,6 +40,29 @@ fn work_out<K: Reading>(table: &Checked, switch: usize, block: &[u32], words: &m
     broken(table.rules(), switch, words)
 }
 
+// Makes the next state of `switch` from its block, with room for the words.
+fn advance_in<K: Reading>(
+    table: &Checked,
+    switch: usize,
+    block: &mut [u32],
+    words: &mut [u32],
+) -> Outcome
+    requires { ⌜ Fitting (view (now table)) switch (now block) ⌝ ∗ ⌜ own-count (length (view (now table) .nodes)) switch (now block) < max-count ⌝ ∗ ⌜ length (now words) ≡ length (view (now table) .nodes) ⌝ }
+    ensures block { λ _. ⌜ now (block .exit) ≡ advanced (word-kind word reading joined less inside equal) (view (now (table .entry))) switch (now (block .entry)) ⌝ }
+    ensures count { λ r. ⌜ r .count ≡ own-count (length (view (now (table .entry)) .nodes)) switch (now (block .entry)) + 1 ⌝ }
+    ensures broken { λ r. ⌜ r .broken ≡ own-mask (word-kind word reading joined less inside equal) (view (now (table .entry))) switch (now (block .entry)) ⌝ }
+{
+    let nodes = table.nodes().len();
+    let switches = table.switches();
+    let count = count_of(block, nodes, switches, switch) + 1;
+    let mask = work_out::<K>(table, switch, block, words);
+    put_own(block, nodes, switches, switch, count, words);
+    Outcome {
+        count,
+        broken: mask,
+    }
+}
+
 // Makes the next state of `switch` from its block.
 pub fn advance<K: Reading>(table: &Checked, switch: usize, block: &mut [u32]) -> Outcome
     requires { ⌜ Fitting (view (now table)) switch (now block) ⌝ ∗ ⌜ own-count (length (view (now table) .nodes)) switch (now block) < max-count ⌝ }
@@ -48,13 +71,6 @@ pub fn advance<K: Reading>(table: &Checked, switch: usize, block: &mut [u32]) ->
     ensures broken { λ r. ⌜ r .broken ≡ own-mask (word-kind word reading joined less inside equal) (view (now (table .entry))) switch (now (block .entry)) ⌝ }
 {
     let nodes = table.nodes().len();
-    let switches = table.switches();
-    let count = count_of(block, nodes, switches, switch) + 1;
     let mut words = [0; 48];
-    let mask = work_out::<K>(table, switch, block, &mut words[0..nodes]);
-    put_own(block, nodes, switches, switch, count, &words[0..nodes]);
-    Outcome {
-        count,
-        broken: mask,
-    }
+    advance_in::<K>(table, switch, block, &mut words[0..nodes])
 }

@@ -2,4 +2,5 @@
 pub mod advance;
 mod records;
 pub mod sight;
+pub mod step;
 mod words;

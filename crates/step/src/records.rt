@@ -1,8 +1,9 @@
 // Records and blocks in a slice of words.
 ghost use Prim.Native.Nat.{_+_, _*_, _^_, _≤_, _<_};
-ghost use Rattle.step.specs.Records.{count-of, newer, put-record, record-of};
-ghost use Rattle.step.specs.Steps.{taken, taken-one};
-ghost use lib.ListN.{length};
+ghost use Rattle.step.specs.Records.{block-length, count-of, hand-length, hand-records, newer, put-record, record-of, records-length};
+ghost use Rattle.step.specs.Steps.{own-count, taken, taken-one};
+ghost use Rattle.table.specs.Limits.{max-nodes, register-count};
+ghost use lib.ListN.{length, set};
 ghost use mathlib.Core.List.{_∷_};
 ghost use mathlib.Core.Path.{_≡_};
 
@@ -79,4 +80,29 @@ pub fn count_of(block: &[u32], nodes: usize, count: usize, j: usize) -> u32
     ensures { λ r. ⌜ r ≡ count-of (record-of nodes (now (block .entry)) j) ⌝ }
 {
     block[start(j, nodes + 1, count)]
+}
+
+// The records of a hand, after its sender, each where it is newer.
+pub fn take_hand(block: &mut [u32], hand: &[u32], nodes: usize, count: usize, switch: usize)
+    requires { ⌜ count * (nodes + 1) ≤ length (now block) ⌝ ∗ ⌜ length (now hand) ≡ hand-length count nodes ⌝ }
+    ensures value { λ _. ⌜ now (block .exit) ≡ taken nodes switch (hand-records (now (hand .entry))) (now (block .entry)) count ⌝ }
+    ensures own { λ _. ⌜ own-count nodes switch (now (block .exit)) ≡ own-count nodes switch (now (block .entry)) ⌝ }
+{
+    take_over(block, &hand[1..hand.len()], nodes, count, switch);
+}
+
+// Writes a register, after the `count` records.
+pub fn set_register(
+    block: &mut [u32],
+    nodes: usize,
+    count: usize,
+    switch: usize,
+    register: usize,
+    word: u32,
+)
+    requires { ⌜ switch < count ⌝ ∗ ⌜ length (now block) ≡ block-length count nodes ⌝ ∗ ⌜ nodes ≤ max-nodes ⌝ ∗ ⌜ register < register-count ⌝ }
+    ensures value { λ _. ⌜ now (block .exit) ≡ set (now (block .entry)) (records-length count nodes + register) word ⌝ }
+    ensures own { λ _. ⌜ own-count nodes switch (now (block .exit)) ≡ own-count nodes switch (now (block .entry)) ⌝ }
+{
+    block[count * (nodes + 1) + register] = word;
 }

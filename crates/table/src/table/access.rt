@@ -1,6 +1,9 @@
 // What a checked table says.
+ghost use Prim.Native.Nat.{_≤_};
+ghost use Rattle.table.specs.Limits.{max-nodes, max-rules, max-switches};
 ghost use Rattle.table.specs.Tables.{start-word, table-length};
 ghost use Rattle.table.specs.Views.{view};
+ghost use lib.ListN.{length};
 ghost use mathlib.Core.Path.{_≡_};
 use crate::limits::REGISTERS;
 use crate::node::Node;
@@ -18,20 +21,23 @@ impl<'a> Checked<'a> {
 
     // The number of switches.
     pub fn switches(&self) -> usize
-        ensures { λ r. ⌜ r ≡ view (now (self .entry)) .switches ⌝ }
+        ensures value { λ r. ⌜ r ≡ view (now (self .entry)) .switches ⌝ }
+        ensures few { λ r. ⌜ r ≤ max-switches ⌝ }
     {
         self.switches
     }
 
     pub fn nodes(&self) -> &[Node]
-        ensures { λ r. ⌜ now r ≡ view (now (self .entry)) .nodes ⌝ }
+        ensures value { λ r. ⌜ now r ≡ view (now (self .entry)) .nodes ⌝ }
+        ensures few { λ r. ⌜ length (now r) ≤ max-nodes ⌝ }
     {
         let count = self.node_count;
         &self.nodes[0..count]
     }
 
     pub fn rules(&self) -> &[Rule]
-        ensures { λ r. ⌜ now r ≡ view (now (self .entry)) .rules ⌝ }
+        ensures value { λ r. ⌜ now r ≡ view (now (self .entry)) .rules ⌝ }
+        ensures few { λ r. ⌜ length (now r) ≤ max-rules ⌝ }
     {
         let count = self.rule_count;
         &self.rules[0..count]
