@@ -1,8 +1,10 @@
+pub mod Columns
 pub mod Masks
 pub mod NewWords
 pub mod OwnRecord
 pub mod Ready
 pub mod RecordLaws
 pub mod Rows
+pub mod Starts
 pub mod TableNames
 pub mod Takeover

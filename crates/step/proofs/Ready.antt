@@ -1,9 +1,10 @@
 -- What working out the words of a block needs, from a sound table. Assumes nothing.
-use Prim.Native.Nat.{ℕ, _+_, _-_, _*_, _≤_}
-use lib.ListN.{length, take, drop, length-take, length-drop}
+use Prim.Native.Nat.{ℕ, _+_, _-_, _*_, _<_, _≤_}
+use lib.ListN.{length, getD, take, drop, length-take, length-drop}
 use mathlib.Core.Bool.{true}
 use mathlib.Core.List.{List, []}
 use mathlib.Core.Path.{_≡_, refl, sym, ap, subst, _∙_}
+use native.Mathlib.Nat.{zero-add}
 use native.Mathlib.Omega.{arith}
 use Rattle.std.proofs.shelf.Lists.{length-take-le}
 use Rattle.table.specs.Limits.{max-rules, max-nodes, register-count}
@@ -11,10 +12,11 @@ use Rattle.table.specs.Tables.{Table, sound}
 use Rattle.table.specs.declared.node.Node.{Node}
 use Rattle.table.specs.declared.node.Rule.{Rule}
 use Rattle.table.proofs.Soundness.{sound-parts, sound-limits}
-use Rattle.step.specs.Names.{all-named, rules-below}
+use Rattle.step.specs.Names.{all-named, names-below, rules-below}
 use Rattle.step.specs.Places.{Placed}
 use Rattle.step.specs.Nodes.{Word-kind}
 use Rattle.step.specs.Steps.{Fitting, new-words, own-words}
+use Rattle.step.proofs.NewWords.{named-at}
 use Rattle.step.proofs.TableNames.{sound-named, sound-rules}
 
 module _ (t : Table) (is-sound : sound t ≡ true) where
@@ -28,6 +30,12 @@ module _ (t : Table) (is-sound : sound t ≡ true) where
         subst (λ l. length l ≤ max-rules) (sym p) (sound-limits t parts .few-rules),
         ap (λ k. rules-below k rs) q ∙ ap (rules-below (length (t .nodes))) p ∙ sound-rules (t .switches) (t .nodes) (t .rules) (parts .rules),
       )
+
+  -- a node names only what is below it
+  pub node-ready : (xs : List Node) → xs ≡ t .nodes → (d : Node) (i : ℕ) → i < length xs → names-below (t .switches) i (getD xs i d) ≡ true
+  node-ready xs q d i lt =
+      ap (λ z. names-below (t .switches) z (getD xs i d)) (sym (zero-add i))
+      ∙ named-at (t .switches) 0 xs d i lt (ap (all-named (t .switches) 0) q ∙ sound-named (t .switches) [] (t .nodes) (sound-parts t is-sound .nodes))
 
   module _ (s : ℕ) (block : List ℕ) (fitting : Fitting t s block) (n : ℕ) (xs : List Node) (p : n ≡ t .switches) (q : xs ≡ t .nodes) where
     pub placed : Placed (record { switch = s; switches = n; nodes = length xs }) block (take (n * (length xs + 1) + 8 - n * (length xs + 1)) (drop (n * (length xs + 1)) block))

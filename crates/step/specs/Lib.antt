@@ -1,6 +1,7 @@
 pub mod Events
 pub mod Names
 pub mod Nodes
+pub mod Opening
 pub mod Places
 pub mod Records
 pub mod Sights

@@ -131,7 +131,7 @@ outcome k t s a block = record {
   broken = own-mask k t s (acted-block t s a block);
 }
 
-abbrev pub answer-of : Option Reason → Outcome → Result Outcome Fault
+abbrev pub answer-of : {A : Type 0} → Option Reason → A → Result A Fault
 answer-of None o = Ok o
 answer-of (Some why) o = refuse why 0
 

@@ -8,7 +8,7 @@ ghost use mathlib.Core.List.{_∷_};
 ghost use mathlib.Core.Path.{_≡_};
 
 // Where record `j` of `count` begins.
-fn start(j: usize, width: usize, count: usize) -> usize
+pub fn start(j: usize, width: usize, count: usize) -> usize
     requires { ⌜ j < count ⌝ ∗ ⌜ count * width < 2 ^ 62 ⌝ }
     ensures value { λ r. ⌜ r ≡ j * width ⌝ }
     ensures inside { λ r. ⌜ r + width ≤ count * width ⌝ }
