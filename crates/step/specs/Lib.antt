@@ -1,9 +1,11 @@
 pub mod Events
+pub mod Logic
 pub mod Names
 pub mod Nodes
 pub mod Opening
 pub mod Places
 pub mod Records
 pub mod Sights
+pub mod StepLaws
 pub mod Steps
 pub mod Truths
