@@ -9,3 +9,4 @@ pub mod Sights
 pub mod StepLaws
 pub mod Steps
 pub mod Truths
+pub mod Worked

@@ -4,4 +4,5 @@ pub mod open;
 mod records;
 pub mod sight;
 pub mod step;
+pub mod theorems;
 mod words;
