@@ -25,8 +25,7 @@ module _ (t : Table) (is-sound : sound t ≡ true) where
 
   pub rules-ready : (rs : List Rule) (m : ℕ) → rs ≡ t .rules → m ≡ length (t .nodes) → (length rs ≤ max-rules) × (rules-below m rs ≡ true)
   rules-ready rs m p q =
-      let parts = sound-parts t is-sound in
-      (
+      let parts = sound-parts t is-sound in (
         subst (λ l. length l ≤ max-rules) (sym p) (sound-limits t parts .few-rules),
         ap (λ k. rules-below k rs) q ∙ ap (rules-below (length (t .nodes))) p ∙ sound-rules (t .switches) (t .nodes) (t .rules) (parts .rules),
       )

@@ -120,8 +120,8 @@ fn fill_block<K: Reading>(table: &Checked, switch: usize, block: &mut [u32])
     let at = block.len() - REGISTERS;
     clear(block);
     open_nodes::<K>(table, block);
-    let registers = starts(table, switch);
-    put_registers(block, at, &registers);
+    let own = starts(table, switch);
+    put_registers(block, at, &own);
 }
 
 // Why the block cannot be opened, if it cannot.
@@ -140,11 +140,7 @@ fn refusal(table: &Checked, switch: usize, block: &[u32]) -> Option<Reason>
 }
 
 // Fills the block with what `switch` starts with, or refuses and leaves it.
-pub fn open<K: Reading>(
-    table: &Checked,
-    switch: usize,
-    block: &mut [u32],
-) -> Result<(), Fault>
+pub fn open<K: Reading>(table: &Checked, switch: usize, block: &mut [u32]) -> Result<(), Fault>
     ensures answer { λ r. ⌜ r ≡ open-answer (view (now (table .entry))) switch (now (block .entry)) ⌝ }
     ensures block { λ _. ⌜ now (block .exit) ≡ open-block (word-kind word reading joined less inside equal) (view (now (table .entry))) switch (now (block .entry)) ⌝ }
 {

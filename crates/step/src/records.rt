@@ -65,7 +65,14 @@ pub fn take_over(block: &mut [u32], copy: &[u32], nodes: usize, count: usize, sw
 }
 
 // The own record: its count, and its words.
-pub fn put_own(block: &mut [u32], nodes: usize, count: usize, switch: usize, stamp: u32, words: &[u32])
+pub fn put_own(
+    block: &mut [u32],
+    nodes: usize,
+    count: usize,
+    switch: usize,
+    stamp: u32,
+    words: &[u32],
+)
     requires { ⌜ switch < count ⌝ ∗ ⌜ count * (nodes + 1) ≤ length (now block) ⌝ ∗ ⌜ length (now words) ≡ nodes ⌝ }
     ensures { λ _. ⌜ now (block .exit) ≡ put-record nodes (now (block .entry)) switch (stamp ∷ now (words .entry)) ⌝ }
 {

@@ -19,4 +19,5 @@ pub struct Sight<'a> {
 }
 
 mod eval;
+
 pub use eval::Past;

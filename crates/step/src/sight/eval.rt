@@ -142,7 +142,9 @@ impl Sight<'_> {
             Node::Previously(a) => truth_word(self.previously(past, a)),
             Node::Once(a) => truth_word(self.holds(a) | self.was(past, i, false)),
             Node::Always(a) => truth_word(self.holds(a) & self.was(past, i, true)),
-            Node::Since(a, b) => truth_word(self.holds(b) | self.holds(a) & self.was(past, i, false)),
+            Node::Since(a, b) => truth_word(
+                self.holds(b) | self.holds(a) & self.was(past, i, false),
+            ),
             Node::TruthAt(j, b) => truth_word(self.there(j, b) != 0),
             Node::Within(a, b) => truth_word(self.reading::<K>(a).within(self.reading::<K>(b))),
             Node::Same(a, b) => truth_word(self.reading::<K>(a).same(self.reading::<K>(b))),

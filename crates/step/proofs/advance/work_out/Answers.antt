@@ -10,8 +10,7 @@ use Rattle.step.proofs.advance.work_out.Needs as need
 pub own-words-requires : need.own-words-requires
 own-words-requires g c κs =
     let t = view (now (c .args .table)) in
-    let fit = c .args .table .now .fit in
-    (
+    let fit = c .args .table .now .fit in (
       placed t fit (c .args .switch) (c .args .block .now) (c .pre .0) _ _ (c .switches .ensures .value) (c .nodes-nodes .ensures .value),
       (
         refl,

@@ -15,8 +15,7 @@ use Rattle.step.proofs.open.open_nodes.Needs as need
 
 pub open-column-requires : need.open-column-requires
 open-column-requires g c κs =
-    let same = ap length (c .nodes-nodes .ensures .value) in
-    (
+    let same = ap length (c .nodes-nodes .ensures .value) in (
       omega (arith, c .pre),
       (
         omega (arith, same, c .loop-i-test .taken),

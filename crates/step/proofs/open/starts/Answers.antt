@@ -15,12 +15,11 @@ use Rattle.step.proofs.open.starts.Needs as need
 pub loop-g-again : need.loop-g-again
 loop-g-again c =
     let lt : c .loop-g .g < length (c .loop-g .words) = omega arith in
-    let said = c .unwrap-or .ensures ∙ ap (λ o. valueOr o 0) (c .starting-word .ensures) ∙ start-value (view (now (c .args .table))) (c .args .switch) (c .loop-g .g) (c .pre) (c .loop-g-test .taken) in
-    (
+    let said = c .unwrap-or .ensures ∙ ap (λ o. valueOr o 0) (c .starting-word .ensures) ∙ start-value (view (now (c .args .table))) (c .args .switch) (c .loop-g .g) (c .pre) (c .loop-g-test .taken) in (
       length-set (c .loop-g .words) (c .loop-g .g) (c .unwrap-or .result) ∙ c .loop-g .inv .0,
       below-more _ _
-      (λ k h. let ne : k ≢ c .loop-g .g = omega arith in rw getD-set-other (c .loop-g .inv .1 k h))
-      (rw getD-set-same said),
+          (λ k h. let ne : k ≢ c .loop-g .g = omega arith in rw getD-set-other (c .loop-g .inv .1 k h))
+          (rw getD-set-same said),
     )
 
 pub returns : need.returns

@@ -15,5 +15,5 @@ returns c =
     record {
       value = value;
       own = ap (λ b. count-of (record-of (c .args .nodes) b (c .args .switch))) value
-        ∙ ap count-of (taken-own (c .args .count) (c .args .nodes) (c .args .switch) (drop 1 (c .args .hand .now)) full (c .args .block .now) (c .pre .0) (c .args .count) (omega arith));
+          ∙ ap count-of (taken-own (c .args .count) (c .args .nodes) (c .args .switch) (drop 1 (c .args .hand .now)) full (c .args .block .now) (c .pre .0) (c .args .count) (omega arith));
     }
