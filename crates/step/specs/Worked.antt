@@ -3,7 +3,7 @@ use Prim.Native.Nat.{ℕ}
 use lib.ListN.{length, replicate}
 use mathlib.Core.List.{List, [], _∷_}
 use mathlib.Core.Path.{_≡_}
-use Rattle.table.specs.Numbers.{number-code, number-word, word-number, sum, difference, at-most, same-number}
+use Rattle.readings.specs.Numbers.{number-code, number-word, word-number, sum, difference, at-most, same-number}
 use Rattle.table.specs.Tables.{Table}
 use Rattle.table.specs.Worked.{worked-table}
 use Rattle.table.specs.declared.node.Node.the-variants.{Constant, Previously, Register, Same}

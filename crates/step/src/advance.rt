@@ -11,7 +11,7 @@ use crate::words::Place;
 use crate::words::broken;
 use crate::words::own_words;
 use table::limits::REGISTERS;
-use table::reading::Reading;
+use readings::reading::Reading;
 use table::table::Checked;
 
 // What a step answers.

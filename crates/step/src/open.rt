@@ -21,7 +21,7 @@ use table::fault::Fault;
 use table::fault::Reason;
 use table::limits::REGISTERS;
 use table::node::Node;
-use table::reading::Reading;
+use readings::reading::Reading;
 use table::table::Checked;
 
 // The words that the registers of `switch` start with.

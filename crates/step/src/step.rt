@@ -20,7 +20,7 @@ use crate::records::take_hand;
 use table::fault::Fault;
 use table::fault::Reason;
 use table::limits::REGISTERS;
-use table::reading::Reading;
+use readings::reading::Reading;
 use table::table::Checked;
 
 // What happens at a switch.

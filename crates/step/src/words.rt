@@ -13,7 +13,7 @@ use crate::sight::Past;
 use crate::sight::Sight;
 use table::node::Node;
 use table::node::Rule;
-use table::reading::Reading;
+use readings::reading::Reading;
 
 // Where a switch's words are worked out: its number, the numbers of switches and nodes, its block.
 #[derive(Clone, Copy)]

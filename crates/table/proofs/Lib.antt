@@ -5,7 +5,6 @@ pub mod FirstFault
 pub mod FrontSteps
 pub mod NodeWords
 pub mod Places
-pub mod PortSets
 pub mod Soundness
 pub mod StartWords
 pub mod TableCodec

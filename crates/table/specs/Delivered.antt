@@ -7,8 +7,8 @@ use Rattle.std.specs.declared.option.Option.{Option}
 use Rattle.std.specs.declared.option.Option.the-variants.{Some, None}
 use Rattle.std.specs.declared.result.Result.{Result}
 use Rattle.std.specs.declared.result.Result.the-variants.{Ok, Err}
-use Rattle.table.specs.Numbers.{number-code}
-use Rattle.table.specs.Ports.{port-code}
+use Rattle.readings.specs.Numbers.{number-code}
+use Rattle.readings.specs.Ports.{port-code}
 use Rattle.table.specs.Refusals.{answer}
 use Rattle.table.specs.Tables.{Table, table-alone}
 use Rattle.table.specs.Wire.{and-then, field, refuse}

@@ -2,8 +2,6 @@ pub mod Delivered
 pub mod Figures
 pub mod Limits
 pub mod Nodes
-pub mod Numbers
-pub mod Ports
 pub mod Readers
 pub mod Refusals
 pub mod TableLaws

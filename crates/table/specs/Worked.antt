@@ -1,19 +1,8 @@
--- Worked values: readings, and a rule table of three switches. Assumes nothing.
-use lib.IntN.{pos, negsuc}
+-- The worked rule table of three switches. Assumes nothing.
 use lib.ListN.{replicate}
 use mathlib.Core.List.{[], _∷_, _++_}
-use mathlib.Core.Path.{_≡_}
-use Rattle.table.specs.Numbers.{sum, difference}
-use Rattle.table.specs.Ports.{without, ports-word, word-ports}
 use Rattle.table.specs.Tables.{Table}
 use Rattle.table.specs.declared.node.Node.the-variants.{Always, ReadingAt, Register, Within}
-
--- A sum and a difference held at the ends of the range, −2147483648 being `negsuc 2147483647`, and a difference of port sets.
-abbrev pub Worked-readings : Type 0
-Worked-readings =
-    (sum (record { value = pos 2147483647 }) (record { value = pos 1 }) .value ≡ pos 2147483647)
-    × (difference (record { value = negsuc 2147483647 }) (record { value = pos 1 }) .value ≡ negsuc 2147483647)
-    × (ports-word (without (word-ports 7) (word-ports 2)) ≡ 5)
 
 -- Register 0, its reading at switch 0, whether that is within the own one, and whether it always was;
 -- the last has to hold at switch 1. Register 0 starts as 5, 7 and 0.

@@ -1,12 +1,8 @@
-// The rule table and the readings that its registers hold.
+// The rule table: its bytes, its check, and what a checked table says.
 pub mod fault;
 pub mod firmware;
 pub mod kind;
 pub mod limits;
 pub mod node;
-pub mod number;
-pub mod ports;
 pub mod reader;
-pub mod reading;
 pub mod table;
-pub mod theorems;

@@ -10,7 +10,7 @@ ghost use mathlib.Core.Bool.{cond, true};
 ghost use mathlib.Core.Path.{_≡_};
 use crate::sight::Sight;
 use table::node::Node;
-use table::reading::Reading;
+use readings::reading::Reading;
 
 // A truth's word.
 fn truth_word(b: bool) -> u32

@@ -19,7 +19,7 @@ use crate::kind::Kind;
 use crate::node::Node;
 use crate::node::Rule;
 use crate::reader::Reader;
-use crate::reading::Reading;
+use readings::reading::Reading;
 use crate::table::Checked;
 use crate::table::Draft;
 use crate::table::parse::read_all_rules;

@@ -20,7 +20,7 @@ use crate::limits::REGISTERS;
 use crate::node::Node;
 use crate::node::Rule;
 use crate::reader::Reader;
-use crate::reading::Reading;
+use readings::reading::Reading;
 
 // The numbers of switches and nodes.
 #[derive(Clone, Copy)]

@@ -7,7 +7,7 @@ use mathlib.Core.Bool.{Bool, false}
 use mir.Syntax.{w32}
 use mir.Val.{SFits, toZ, ofZ}
 use Rattle.std.specs.Numbers.{saturated}
-use Rattle.table.specs.declared.number.Number.{Number}
+use Rattle.readings.specs.declared.number.Number.{Number}
 
 abbrev pub number-code : ℕ
 number-code = 1

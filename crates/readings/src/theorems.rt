@@ -1,6 +1,6 @@
 // What holds of the definitions that the contracts cite.
-ghost use Rattle.table.specs.Ports.{Ports-are-sets};
-ghost use Rattle.table.specs.Worked.{Worked-readings};
+ghost use Rattle.readings.specs.Ports.{Ports-are-sets};
+ghost use Rattle.readings.specs.Worked.{Worked-readings};
 
 // Port sets are sets, and the worked values of both kinds of reading come out.
 pub fn readings_stand() -> u8

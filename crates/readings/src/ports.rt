@@ -1,5 +1,5 @@
 // Port sets: bit p of the word is port p.
-ghost use Rattle.table.specs.Ports.{port-code, held-ports, ports-word, word-ports, union, without, subset, same-ports};
+ghost use Rattle.readings.specs.Ports.{port-code, held-ports, ports-word, word-ports, union, without, subset, same-ports};
 use crate::reading::Reading;
 
 #[derive(Clone, Copy, Debug, PartialEq)]

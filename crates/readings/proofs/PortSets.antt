@@ -8,8 +8,8 @@ use mathlib.Core.Bool.{Bool, true, false, cond, not, _&&_, _||_, Bool·beq}
 use mathlib.Core.Logic.{_⊎_, inl, inr, _↔_, Iff·trans}
 use mathlib.Core.Path.{_≡_, refl, sym, ap, _∙_}
 use Rattle.std.proofs.shelf.Tests.{and-from, and-parts, both-ways, cases-eq, eq-eqb, eqb-true, or-cases, or-left, or-right}
-use Rattle.table.specs.Ports.{port-count, has, collect, all-below, held-ports, word-ports, union, without, subset, same-ports, Ports-are-sets}
-use Rattle.table.specs.declared.ports.Ports.{Ports}
+use Rattle.readings.specs.Ports.{port-count, has, collect, all-below, held-ports, word-ports, union, without, subset, same-ports, Ports-are-sets}
+use Rattle.readings.specs.declared.ports.Ports.{Ports}
 
 -- ---- tests
 

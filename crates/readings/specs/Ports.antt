@@ -4,7 +4,7 @@ use lib.Dec.{eqb}
 use mathlib.Core.Bool.{Bool, true, cond, not, _&&_, _||_, Bool·beq}
 use mathlib.Core.Logic.{_⊎_, _↔_}
 use mathlib.Core.Path.{_≡_}
-use Rattle.table.specs.declared.ports.Ports.{Ports}
+use Rattle.readings.specs.declared.ports.Ports.{Ports}
 
 abbrev pub port-code : ℕ
 port-code = 2

@@ -1,7 +1,7 @@
 -- The digits of `|` are the union.
 use borrow.Author.Needs.{needs}
-use Rattle.table.proofs.PortSets.{join-is}
-use Rattle.table.proofs.ports.PortsReading.join.Needs as need
+use Rattle.readings.proofs.PortSets.{join-is}
+use Rattle.readings.proofs.ports.PortsReading.join.Needs as need
 
 pub returns : need.returns
 returns c = search (needs, join-is)

@@ -1,7 +1,7 @@
 -- Two words are equal where they have the same ports.
 use borrow.Author.Needs.{needs}
-use Rattle.table.proofs.PortSets.{same-is}
-use Rattle.table.proofs.ports.PortsReading.same.Needs as need
+use Rattle.readings.proofs.PortSets.{same-is}
+use Rattle.readings.proofs.ports.PortsReading.same.Needs as need
 
 pub returns : need.returns
 returns c = search (needs, same-is)

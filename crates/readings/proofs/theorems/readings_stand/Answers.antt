@@ -1,8 +1,8 @@
 -- The worked values compute.
 use mathlib.Core.Path.{refl}
-use Rattle.table.proofs.PortSets.{ports-are-sets}
-use Rattle.table.proofs.theorems.readings_stand.Needs as need
-use Rattle.table.specs.Ports.{collect, has}
+use Rattle.readings.proofs.PortSets.{ports-are-sets}
+use Rattle.readings.proofs.theorems.readings_stand.Needs as need
+use Rattle.readings.specs.Ports.{collect, has}
 
 pub returns : need.returns
 unfolding collect has

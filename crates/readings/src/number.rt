@@ -1,5 +1,5 @@
 // Numbers: a word in two's complement.
-ghost use Rattle.table.specs.Numbers.{number-code, held-number, number-word, word-number, sum, difference, at-most, same-number};
+ghost use Rattle.readings.specs.Numbers.{number-code, held-number, number-word, word-number, sum, difference, at-most, same-number};
 use crate::reading::Reading;
 
 #[derive(Clone, Copy, Debug, PartialEq)]
