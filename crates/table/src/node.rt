@@ -1,7 +1,7 @@
 // The nodes of a rule table: formulas and readings, each over nodes before it.
 
 // A node. Numbers of nodes, switches and registers are as the table has them.
-#[derive(Clone, Copy, Debug, PartialEq)]
+#[derive(Clone, Copy)]
 pub enum Node {
     Truth(bool),
     Not(usize),
@@ -27,7 +27,7 @@ pub enum Node {
 }
 
 // A truth node that has to hold at a switch.
-#[derive(Clone, Copy, Debug, PartialEq)]
+#[derive(Clone, Copy)]
 pub struct Rule {
     pub switch: usize,
     pub node: usize,
