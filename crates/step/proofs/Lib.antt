@@ -1,10 +1,16 @@
 pub mod Columns
+pub mod FirstWords
+pub mod MaskBits
 pub mod Masks
 pub mod NewWords
+pub mod Obeying
+pub mod OpeningMeaning
 pub mod OwnRecord
 pub mod Ready
 pub mod RecordLaws
 pub mod Rows
 pub mod Starts
+pub mod StepMeaning
 pub mod TableNames
 pub mod Takeover
+pub mod Told

@@ -1,0 +1,3 @@
+pub mod Formulas
+pub mod PortSteps
+pub mod Writing

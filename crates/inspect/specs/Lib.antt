@@ -1,0 +1,4 @@
+pub mod Forms
+pub mod Reports
+pub mod Values
+pub mod Words
