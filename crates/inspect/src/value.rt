@@ -2,10 +2,10 @@
 ghost use Rattle.inspect.specs.Values.{port-text, ports-text, value-text};
 ghost use Rattle.std.specs.Written.{Prints};
 ghost use Rattle.std.specs.declared.option.Option.the-variants.{Some};
-use std::fmt;
-use table::kind::Kind;
 use readings::number::Number;
 use readings::number::NumberReading;
+use std::fmt;
+use table::kind::Kind;
 
 // The reading of a word.
 #[derive(Clone, Copy)]

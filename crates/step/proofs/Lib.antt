@@ -1,5 +1,6 @@
 pub mod Columns
 pub mod FirstWords
+pub mod Laws
 pub mod MaskBits
 pub mod Masks
 pub mod NewWords

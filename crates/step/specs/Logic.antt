@@ -19,6 +19,16 @@ pub record Kind (R : Type 0) : Type 0 where
   pub inside : R → R → Bool
   pub equal : R → R → Bool
 
+abbrev pub kind-of : {R : Type 0} → (R → ℕ) → (ℕ → R) → (R → R → R) → (R → R → R) → (R → R → Bool) → (R → R → Bool) → Kind R
+kind-of word reading joined less inside equal = record {
+  word = word;
+  reading = reading;
+  joined = joined;
+  less = less;
+  inside = inside;
+  equal = equal;
+}
+
 -- A kind that keeps its law: a reading turned into a word and back is that reading, of all the readings that there are,
 -- and words are read as such
 pub record Lawful {R : Type 0} (k : Kind R) (held : R → Type 0) : Type 0 where

@@ -1,6 +1,8 @@
 // The part of a step that every event has: the own count grows, and the own words are worked out.
 ghost use Prim.Native.Nat.{_+_, _<_};
+ghost use Rattle.step.specs.Logic.{kind-of};
 ghost use Rattle.step.specs.Nodes.{word-kind};
+ghost use Rattle.step.specs.StepLaws.{Step-law};
 ghost use Rattle.step.specs.Steps.{Fitting, advanced, max-count, own-count, own-mask, own-words};
 ghost use Rattle.table.specs.Views.{view};
 ghost use lib.ListN.{length};
@@ -10,8 +12,8 @@ use crate::records::put_own;
 use crate::words::Place;
 use crate::words::broken;
 use crate::words::own_words;
-use table::limits::REGISTERS;
 use readings::reading::Reading;
+use table::limits::REGISTERS;
 use table::table::Checked;
 
 // What a step answers.
@@ -28,6 +30,7 @@ fn work_out<K: Reading>(table: &Checked, switch: usize, block: &[u32], words: &m
     requires { ⌜ Fitting (view (now table)) switch (now block) ⌝ ∗ ⌜ length (now words) ≡ length (view (now table) .nodes) ⌝ }
     ensures words { λ _. ⌜ now (words .exit) ≡ own-words (word-kind word reading joined less inside equal) (view (now (table .entry))) switch (now (block .entry)) ⌝ }
     ensures mask { λ r. ⌜ r ≡ own-mask (word-kind word reading joined less inside equal) (view (now (table .entry))) switch (now (block .entry)) ⌝ }
+    ensures law { λ r. ⌜ Step-law (kind-of word reading joined less inside equal) (view (now (table .entry))) switch (now (block .entry)) r ⌝ }
 {
     let nodes = table.nodes();
     let place = Place {
@@ -51,6 +54,7 @@ fn advance_in<K: Reading>(
     ensures block { λ _. ⌜ now (block .exit) ≡ advanced (word-kind word reading joined less inside equal) (view (now (table .entry))) switch (now (block .entry)) ⌝ }
     ensures count { λ r. ⌜ r .count ≡ own-count (length (view (now (table .entry)) .nodes)) switch (now (block .entry)) + 1 ⌝ }
     ensures broken { λ r. ⌜ r .broken ≡ own-mask (word-kind word reading joined less inside equal) (view (now (table .entry))) switch (now (block .entry)) ⌝ }
+    ensures law { λ r. ⌜ Step-law (kind-of word reading joined less inside equal) (view (now (table .entry))) switch (now (block .entry)) (r .broken) ⌝ }
 {
     let nodes = table.nodes().len();
     let switches = table.switches();
@@ -69,6 +73,7 @@ pub fn advance<K: Reading>(table: &Checked, switch: usize, block: &mut [u32]) ->
     ensures block { λ _. ⌜ now (block .exit) ≡ advanced (word-kind word reading joined less inside equal) (view (now (table .entry))) switch (now (block .entry)) ⌝ }
     ensures count { λ r. ⌜ r .count ≡ own-count (length (view (now (table .entry)) .nodes)) switch (now (block .entry)) + 1 ⌝ }
     ensures broken { λ r. ⌜ r .broken ≡ own-mask (word-kind word reading joined less inside equal) (view (now (table .entry))) switch (now (block .entry)) ⌝ }
+    ensures law { λ r. ⌜ Step-law (kind-of word reading joined less inside equal) (view (now (table .entry))) switch (now (block .entry)) (r .broken) ⌝ }
 {
     let nodes = table.nodes().len();
     let mut words = [0; 48];

@@ -2,11 +2,14 @@
 ghost use Prim.Native.Nat.{_+_, _*_, _<_, _≤_};
 ghost use Rattle.std.specs.Options.{Cases};
 ghost use Rattle.step.specs.Names.{names-below};
+ghost use Rattle.std.specs.Vec.{made};
+ghost use Rattle.step.specs.Logic.{kind-of};
 ghost use Rattle.step.specs.Nodes.{word-kind};
+ghost use Rattle.step.specs.StepLaws.{Opening-law, record-words, standing-answer};
 ghost use Rattle.step.specs.Opening.{column, columns, first-word, open-answer, open-block, open-refusal, opened, opened-one, start-registers};
 ghost use Rattle.step.specs.Places.{Placed};
 ghost use Rattle.step.specs.Records.{block-length, record-start};
-ghost use Rattle.step.specs.Steps.{Fitting};
+ghost use Rattle.step.specs.Steps.{Fitting, mask};
 ghost use Rattle.table.specs.Limits.{max-nodes, max-switches, register-count};
 ghost use Rattle.table.specs.Views.{view};
 ghost use lib.ListN.{length, replicate};
@@ -17,11 +20,12 @@ use crate::records::start;
 use crate::sight::Past;
 use crate::sight::Sight;
 use crate::words::Place;
+use crate::words::broken;
+use readings::reading::Reading;
 use table::fault::Fault;
 use table::fault::Reason;
 use table::limits::REGISTERS;
 use table::node::Node;
-use readings::reading::Reading;
 use table::table::Checked;
 
 // The words that the registers of `switch` start with.
@@ -115,7 +119,8 @@ fn put_registers(block: &mut [u32], at: usize, words: &[u32])
 // Fills the block with what `switch` starts with.
 fn fill_block<K: Reading>(table: &Checked, switch: usize, block: &mut [u32])
     requires { ⌜ Fitting (view (now table)) switch (now block) ⌝ }
-    ensures { λ _. ⌜ now (block .exit) ≡ opened (word-kind word reading joined less inside equal) (view (now (table .entry))) switch ⌝ }
+    ensures value { λ _. ⌜ now (block .exit) ≡ opened (word-kind word reading joined less inside equal) (view (now (table .entry))) switch ⌝ }
+    ensures law { λ _. ⌜ Opening-law (kind-of word reading joined less inside equal) (view (now (table .entry))) switch ⌝ }
 {
     let at = block.len() - REGISTERS;
     clear(block);
@@ -143,10 +148,31 @@ fn refusal(table: &Checked, switch: usize, block: &[u32]) -> Option<Reason>
 pub fn open<K: Reading>(table: &Checked, switch: usize, block: &mut [u32]) -> Result<(), Fault>
     ensures answer { λ r. ⌜ r ≡ open-answer (view (now (table .entry))) switch (now (block .entry)) ⌝ }
     ensures block { λ _. ⌜ now (block .exit) ≡ open-block (word-kind word reading joined less inside equal) (view (now (table .entry))) switch (now (block .entry)) ⌝ }
+    ensures law { λ r. ⌜ made r (λ _. Opening-law (kind-of word reading joined less inside equal) (view (now (table .entry))) switch) ⌝ }
 {
     if let Some(reason) = refusal(table, switch, block) {
         return Err(Fault { reason, place: 0 });
     }
     fill_block::<K>(table, switch, block);
     Ok(())
+}
+
+// The broken mask of the own record in a block, as it stands.
+pub fn broken_in(table: &Checked, switch: usize, block: &[u32]) -> Result<u32, Fault>
+    ensures { λ r. ⌜ r ≡ standing-answer (view (now (table .entry))) switch (now (block .entry)) ⌝ }
+{
+    if let Some(reason) = refusal(table, switch, block) {
+        return Err(Fault { reason, place: 0 });
+    }
+    Ok(standing(table, switch, block))
+}
+
+// The same of a block of the table's shape.
+fn standing(table: &Checked, switch: usize, block: &[u32]) -> u32
+    requires { ⌜ Fitting (view (now table)) switch (now block) ⌝ }
+    ensures { λ r. ⌜ r ≡ mask switch (record-words (length (view (now (table .entry)) .nodes)) (now (block .entry)) switch) (view (now (table .entry)) .rules) ⌝ }
+{
+    let nodes = table.nodes().len();
+    let at = start(switch, nodes + 1, table.switches()) + 1;
+    broken(table.rules(), switch, &block[at..at + nodes])
 }

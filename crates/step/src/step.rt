@@ -1,6 +1,9 @@
 // One switch's step.
 ghost use Prim.Native.Nat.{_+_, _<_, _≤_};
+ghost use Rattle.std.specs.Vec.{made};
+ghost use Rattle.step.specs.Logic.{kind-of};
 ghost use Rattle.step.specs.Nodes.{word-kind};
+ghost use Rattle.step.specs.StepLaws.{Step-law};
 ghost use Rattle.step.specs.Records.{block-length, hand-length};
 ghost use Rattle.step.specs.Steps.{Admitted, acted-block, hand-fits, own-count, register-fits, step-answer, step-block, step-refusal};
 ghost use Rattle.step.specs.Events.{act-of};
@@ -17,10 +20,10 @@ use crate::advance::advance;
 use crate::records::count_of;
 use crate::records::set_register;
 use crate::records::take_hand;
+use readings::reading::Reading;
 use table::fault::Fault;
 use table::fault::Reason;
 use table::limits::REGISTERS;
-use readings::reading::Reading;
 use table::table::Checked;
 
 // What happens at a switch.
@@ -104,6 +107,7 @@ pub fn step<K: Reading>(
 ) -> Result<Outcome, Fault>
     ensures answer { λ r. ⌜ r ≡ step-answer (word-kind word reading joined less inside equal) (view (now (table .entry))) switch (act-of (event .entry)) (now (block .entry)) ⌝ }
     ensures block { λ _. ⌜ now (block .exit) ≡ step-block (word-kind word reading joined less inside equal) (view (now (table .entry))) switch (act-of (event .entry)) (now (block .entry)) ⌝ }
+    ensures law { λ r. ⌜ made r (λ o. Step-law (kind-of word reading joined less inside equal) (view (now (table .entry))) switch (acted-block (view (now (table .entry))) switch (act-of (event .entry)) (now (block .entry))) (o .broken)) ⌝ }
 {
     if let Some(reason) = refusal(table, switch, event, block) {
         return Err(Fault { reason, place: 0 });

@@ -11,9 +11,9 @@ ghost use mathlib.Core.List.{[]};
 ghost use mathlib.Core.Path.{_≡_};
 use crate::sight::Past;
 use crate::sight::Sight;
+use readings::reading::Reading;
 use table::node::Node;
 use table::node::Rule;
-use readings::reading::Reading;
 
 // Where a switch's words are worked out: its number, the numbers of switches and nodes, its block.
 #[derive(Clone, Copy)]

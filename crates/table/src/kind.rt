@@ -9,14 +9,14 @@ ghost use Rattle.table.specs.Wire.{counted};
 ghost use mathlib.Core.Bool.{false};
 ghost use mathlib.Core.Path.{_≡_};
 use crate::fault::Fault;
+use crate::table::Checked;
+use crate::table::Draft;
+use crate::table::check;
 use readings::number::Number;
 use readings::number::NumberReading;
 use readings::ports::Ports;
 use readings::ports::PortsReading;
 use readings::reading::Reading;
-use crate::table::Checked;
-use crate::table::Draft;
-use crate::table::check;
 
 // A delivered kind of reading.
 #[derive(Clone, Copy, Debug, PartialEq)]

@@ -9,8 +9,8 @@ ghost use lib.ListN.{length};
 ghost use mathlib.Core.Bool.{cond, true};
 ghost use mathlib.Core.Path.{_≡_};
 use crate::sight::Sight;
-use table::node::Node;
 use readings::reading::Reading;
+use table::node::Node;
 
 // A truth's word.
 fn truth_word(b: bool) -> u32

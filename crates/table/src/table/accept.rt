@@ -19,13 +19,13 @@ use crate::kind::Kind;
 use crate::node::Node;
 use crate::node::Rule;
 use crate::reader::Reader;
-use readings::reading::Reading;
 use crate::table::Checked;
 use crate::table::Draft;
 use crate::table::parse::read_all_rules;
 use crate::table::parse::read_header;
 use crate::table::parse::read_nodes;
 use crate::table::parse::read_starts;
+use readings::reading::Reading;
 
 impl<'a> Draft<'a> {
     pub fn new(bytes: &'a [u8]) -> Draft<'a>

@@ -4,6 +4,8 @@ use lib.ListN.{length}
 use denote.Ref.{now}
 use Rattle.table.specs.Views.{view}
 use Rattle.step.specs.Steps.{mask}
+use Rattle.step.specs.Logic.{kind-of}
+use Rattle.step.proofs.Laws.{step-law, slice-words}
 use Rattle.step.proofs.Ready.{placed, all-ready, rules-ready, words-same}
 use Rattle.step.proofs.advance.work_out.Needs as need
 
@@ -28,7 +30,9 @@ pub returns : need.returns
 returns g c =
     let t = view (now (c .args .table)) in
     let words = c .own-words .ensures ∙ words-same t (c .args .table .now .fit) (c .args .switch) (c .args .block .now) (c .pre .0) _ _ (c .switches .ensures .value) (c .nodes-nodes .ensures .value) _ in
+    let said = c .broken .ensures ∙ (λ i. mask (c .args .switch) (words i) (c .rules .ensures .value i)) in
     record {
       words = words;
-      mask = c .broken .ensures ∙ (λ i. mask (c .args .switch) (words i) (c .rules .ensures .value i));
+      law = step-law (kind-of (g .K·Reading .word) (g .K·Reading .reading) (g .K·Reading .joined) (g .K·Reading .less) (g .K·Reading .inside) (g .K·Reading .equal)) (g .K·Reading .held) (record { back = g .K·Reading·met .back; fits = g .K·Reading·met .fits; reads = g .K·Reading·met .reads; joins = g .K·Reading·met .joins; cuts = g .K·Reading·met .cuts }) t (c .args .table .now .fit) (c .args .switch) (c .args .block .now) (c .broken .result) (c .pre .0) (slice-words _ (c .typed .block)) said;
+      mask = said;
     }
