@@ -1,0 +1,5 @@
+pub mod Copies
+pub mod CopyLaws
+pub mod Figures
+pub mod Meanings
+pub mod Places

@@ -1,0 +1,2 @@
+// Carriers: what keeps copies by number, and the pools that do.
+pub mod carrier;
