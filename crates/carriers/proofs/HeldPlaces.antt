@@ -12,6 +12,7 @@ use Rattle.std.specs.declared.option.Option.{Option}
 use Rattle.std.specs.declared.option.Option.the-variants.{Some, None}
 use Rattle.std.specs.shelf.Lists.{All}
 use Rattle.carriers.specs.Meanings.{Held, copy-under, copies-but}
+use Rattle.carriers.specs.Stores.{Others}
 use Rattle.carriers.specs.Places.{inserted-by-number, with-place, held-below, used-below, or-this, lowest-below, Numbered, Distinct}
 
 -- One copy inserted
@@ -220,10 +221,6 @@ held-numbered flag copy (suc k) next n = elim (cases-bool (eqb (flag k) 0)) [
     below zero ne le = absurd (ne refl)
     below (suc f) ne le = omega arith
 
--- the other places are as they were
-abbrev pub Others : (flag flag′ : ℕ → ℕ) (copy copy′ : ℕ → List ℕ) (c p : ℕ) → Type 0
-Others flag flag′ copy copy′ c p = (k : ℕ) → k < c → (k ≡ p → ⊥) → (flag′ k ≡ flag k) × (copy′ k ≡ copy k)
-
 -- A copy put into a free place
 
 with-same : (f g : ℕ) (c d : List ℕ) (hs : List Held) → f ≡ g → c ≡ d → with-place f c hs ≡ with-place g d hs
@@ -379,3 +376,11 @@ module _ (flag : ℕ → ℕ) (copy : ℕ → List ℕ) (x : ℕ) where
   -- it is the copy at the place with its flag
   pub under-place : (c p : ℕ) → Distinct flag c → p < c → flag p ≡ x + 1 → copy-under x (held-below flag copy c) ≡ Some (copy p)
   under-place c p distinct lt f = under-place-below c p distinct lt f
+
+-- a number that was not given out has no place
+pub lowest-unused : (flag : ℕ → ℕ) (x next k : ℕ) → Numbered flag k next → next ≤ x → lowest-below flag (x + 1) k ≡ None
+unfolding lowest-below
+lowest-unused flag x next zero numbered le = refl
+lowest-unused flag x next (suc k) numbered le =
+    let ne : flag k ≡ x + 1 → ⊥ = λ e. omega (arith, numbered k (omega arith)) in
+    ap (λ o. or-this o (eqb (flag k) (x + 1)) k) (lowest-unused flag x next k (λ j lt. numbered j (omega arith)) le) ∙ cond-false _ _ _ (ne-eqb (flag k) (x + 1) ne)

@@ -1,5 +1,10 @@
+pub mod CopyCodec
+pub mod CopyPlaces
 pub mod CopyWrites
 pub mod EachRead
 pub mod HeldPlaces
 pub mod Placing
+pub mod PoolSteps
+pub mod Regions
 pub mod Rows
+pub mod WordStores

@@ -1,3 +1,7 @@
 // Carriers: what keeps copies by number, and the pools that do.
 pub mod carrier;
 pub mod copy;
+pub(crate) mod frames;
+pub(crate) mod places;
+pub(crate) mod pool;
+pub(crate) mod words;

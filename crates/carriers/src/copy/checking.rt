@@ -1,12 +1,14 @@
 // Checks bytes for being a copy, field by field.
 ghost use Prim.Native.Nat.{_+_, _*_, _≤_};
-ghost use Rattle.carriers.specs.Copies.{copy-read, each-read, header-read, record-offset, record-read, record-size, records-read, required};
+ghost use Rattle.carriers.specs.Copies.{copy-length, copy-read, each-read, header-read, record-offset, record-read, record-size, records-read, required};
 ghost use Rattle.std.specs.Results.{isOk};
+ghost use Rattle.std.specs.Vec.{made};
 ghost use Rattle.table.specs.Limits.{max-nodes, max-switches};
 ghost use Rattle.table.specs.Readers.{Advanced};
 ghost use Rattle.table.specs.Wire.{fault, field};
 ghost use Rattle.table.specs.declared.fault.Reason.the-variants.{Copy};
 ghost use lib.Dec.{eqb, ltb};
+ghost use lib.ListN.{length};
 ghost use mathlib.Core.Path.{_≡_};
 use table::fault::Fault;
 use table::fault::Reason;
@@ -105,7 +107,8 @@ pub(crate) fn check_bytes(
     bytes: &[u8],
 ) -> Result<(), Fault>
     requires { ⌜ count ≤ max-switches ⌝ ∗ ⌜ nodes ≤ max-nodes ⌝ }
-    ensures { λ r. ⌜ r ≡ copy-read code count nodes (now (bytes .entry)) ⌝ }
+    ensures value { λ r. ⌜ r ≡ copy-read code count nodes (now (bytes .entry)) ⌝ }
+    ensures sized { λ r. ⌜ made r (λ _. length (now (bytes .entry)) ≡ copy-length count nodes) ⌝ }
 {
     let mut reader = Reader::new(bytes, Reason::Copy);
     check_header(&mut reader, code, count)?;
