@@ -2,6 +2,7 @@ pub mod CopyCodec
 pub mod CopyPlaces
 pub mod CopyWrites
 pub mod EachRead
+pub mod FrameStores
 pub mod HeldPlaces
 pub mod Placing
 pub mod PoolSteps

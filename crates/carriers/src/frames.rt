@@ -18,7 +18,7 @@ pub(crate) struct Frames<'a> {
     pub(crate) shape: Shape,
 }
 
-impl<'a> Places for Frames<'a> as FramePlaces {
+pub(crate) impl<'a> Places for Frames<'a> as FramePlaces {
     ghost outline = { λ s. s .shape };
 
     ghost flags = { λ s. frame-flag (s .shape) (now (s .memory)) };

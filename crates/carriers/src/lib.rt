@@ -4,4 +4,5 @@ pub mod copy;
 pub(crate) mod frames;
 pub(crate) mod places;
 pub(crate) mod pool;
+pub mod word_pool;
 pub(crate) mod words;

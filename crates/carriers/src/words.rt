@@ -14,7 +14,7 @@ pub(crate) struct Words<'a> {
     pub(crate) shape: Shape,
 }
 
-impl<'a> Places for Words<'a> as WordPlaces {
+pub(crate) impl<'a> Places for Words<'a> as WordPlaces {
     ghost outline = { λ s. s .shape };
 
     ghost flags = { λ s. word-flag (s .shape) (now (s .memory)) };
