@@ -4,6 +4,7 @@ pub mod CopyWrites
 pub mod EachRead
 pub mod FrameStores
 pub mod HeldPlaces
+pub mod Opening
 pub mod Placing
 pub mod PoolSteps
 pub mod Regions

@@ -1,10 +1,12 @@
 -- Places of bytes: the flag as a field, and then the copy. Assumes nothing.
-use Prim.Native.Nat.{ℕ, _+_, _*_, _<_, _≤_}
+use Prim.Native.Nat.{ℕ, _+_, _*_, _/_, _<_, _≤_}
 use lib.ListN.{length, take, drop}
+use mathlib.Core.Bool.{cond}
 use mathlib.Core.List.{List}
 use Rattle.table.specs.Limits.{max-nodes, max-switches}
 use Rattle.table.specs.Wire.{word-at}
 use Rattle.carriers.specs.Copies.{copy-length, hand-in}
+use Rattle.carriers.specs.CopyCalls.{in-range}
 use Rattle.carriers.specs.declared.places.Shape.{Shape}
 
 abbrev pub frame-place : ℕ → ℕ → ℕ
@@ -22,3 +24,7 @@ frames-fit s memory =
     (s .capacity * frame-place (s .switches) (s .nodes) ≤ length memory)
     × (0 < s .capacity → s .switches ≤ max-switches)
     × (0 < s .capacity → s .nodes ≤ max-nodes)
+
+-- how many places a memory of this size has
+abbrev pub frame-capacity : ℕ → ℕ → ℕ → ℕ
+frame-capacity n m size = cond (in-range n m) (size / frame-place n m) 0

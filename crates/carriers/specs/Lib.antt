@@ -7,5 +7,6 @@ pub mod Meanings
 pub mod Memory
 pub mod Places
 pub mod Pools
+pub mod Runs
 pub mod Stores
 pub mod WordPlaces
