@@ -81,8 +81,8 @@ module _ (bs : List ℕ) (n m : ℕ) (rs : List ℕ) (long : length rs ≡ recor
       let whole = subst (Stands bs 12) (joined-append (records-fields m rs k) (record-fields m (record-of m rs k))) h in
       elim (cases-eq j k) [
         | inl e ↦
-          record-parts bs (record-offset m j) m (record-of m rs j)
-          (subst (λ i. Stands bs (record-offset m i) (joined word-bytes (record-fields m (record-of m rs i)))) (sym e)
+            record-parts bs (record-offset m j) m (record-of m rs j)
+            (subst (λ i. Stands bs (record-offset m i) (joined word-bytes (record-fields m (record-of m rs i)))) (sym e)
             (stands-right bs 12 (k * record-size m) (joined word-bytes (records-fields m rs k)) (joined word-bytes (record-fields m (record-of m rs k))) (length-records-fields m n rs long k (omega arith)) whole))
         | inr e ↦ record-there k j (omega arith) (omega arith) (stands-left bs 12 (joined word-bytes (records-fields m rs k)) (joined word-bytes (record-fields m (record-of m rs k))) whole)
       ]
@@ -146,7 +146,7 @@ record-accepted bs at m r long h =
     and-then-from _ _ _ _ (field-from Copy bs at (getD r 0 0) (h .first))
     (and-then-from _ _ _ _ (required-from (λ w. eqb w m) bs (at + 4) m (h .many) (eq-eqb m m refl))
     (each-from (λ i. field Copy bs (at + 8 + i * 4)) (λ i. getD (drop 1 r) i 0) m
-      (λ i lt. field-from Copy bs (at + 8 + i * 4) _ (word-there bs (drop 1 r) (at + 8) i (h .words) (omega (arith, length-drop 1 r))))))
+    (λ i lt. field-from Copy bs (at + 8 + i * 4) _ (word-there bs (drop 1 r) (at + 8) i (h .words) (omega (arith, length-drop 1 r))))))
 
 copy-accepted : (code n m : ℕ) (hand bs : List ℕ) → length hand ≡ hand-length n m → getD hand 0 0 < n → copy-bytes code n m hand ≡ bs → copy-read code n m bs ≡ Ok tt
 unfolding copy-read header-read
@@ -155,14 +155,14 @@ copy-accepted code n m hand bs long below e =
     let rs : length (hand-records hand) ≡ records-length n m = length-drop 1 hand ∙ omega arith in
     let size : copy-length n m ≡ length bs = sym (length-copy-bytes code n m hand long) ∙ ap length e in
     let header : header-read code n bs ≡ Ok tt =
-        and-then-from (required (λ w. eqb w code) bs 0) (λ _. and-then (required (λ w. ltb w n) bs 4) (λ _. and-then (required (λ w. eqb w n) bs 8) (λ _. Ok tt))) code tt
-        (required-from (λ w. eqb w code) bs 0 code (s .coded) (eq-eqb code code refl))
-        (and-then-from (required (λ w. ltb w n) bs 4) (λ _. and-then (required (λ w. eqb w n) bs 8) (λ _. Ok tt)) (getD hand 0 0) tt
-        (required-from (λ w. ltb w n) bs 4 (getD hand 0 0) (s .sent) (lt-ltb _ _ below))
-        (and-then-from (required (λ w. eqb w n) bs 8) (λ _. Ok tt) n tt (required-from (λ w. eqb w n) bs 8 n (s .counted) (eq-eqb n n refl)) refl)) in
+    and-then-from (required (λ w. eqb w code) bs 0) (λ _. and-then (required (λ w. ltb w n) bs 4) (λ _. and-then (required (λ w. eqb w n) bs 8) (λ _. Ok tt))) code tt
+    (required-from (λ w. eqb w code) bs 0 code (s .coded) (eq-eqb code code refl))
+    (and-then-from (required (λ w. ltb w n) bs 4) (λ _. and-then (required (λ w. eqb w n) bs 8) (λ _. Ok tt)) (getD hand 0 0) tt
+    (required-from (λ w. ltb w n) bs 4 (getD hand 0 0) (s .sent) (lt-ltb _ _ below))
+    (and-then-from (required (λ w. eqb w n) bs 8) (λ _. Ok tt) n tt (required-from (λ w. eqb w n) bs 8 n (s .counted) (eq-eqb n n refl)) refl)) in
     let records : records-read n m bs ≡ Ok tt = each-from (λ j. record-read m bs (record-offset m j)) (λ _. tt) n
-        (λ j lt. record-accepted bs (record-offset m j) m (record-of m (hand-records hand) j) (length-record-of m n j (hand-records hand) rs lt)
-          (record-there bs n m (hand-records hand) rs n j (omega arith) lt (s .records))) in
+    (λ j lt. record-accepted bs (record-offset m j) m (record-of m (hand-records hand) j) (length-record-of m n j (hand-records hand) rs lt)
+    (record-there bs n m (hand-records hand) rs n j (omega arith) lt (s .records))) in
     and-then-from _ _ tt tt header (and-then-from _ _ tt tt records (cond-true _ _ _ (eq-eqb _ _ size)))
 
 -- What is accepted is the encoding of a copy
@@ -201,11 +201,11 @@ accepted code n m bs h =
       sender-below = subst (λ w. w < n) (sym (sender-field .1)) (ltb-true _ _ (sender-field .2));
       count-is = count-field .1 ∙ eqb-true _ _ (count-field .2);
       words-are = λ j lt. (
-        let r = each-parts (λ k. record-read m bs (record-offset m k)) n j (b .1) lt in
-        let f = and-then-parts (field Copy bs (record-offset m j)) _ (r .0) (r .1) in
-        let g = and-then-parts (required (λ w. eqb w m) bs (record-offset m j + 4)) _ (r .0) (f .2) in
-        let w = required-parts _ bs (record-offset m j + 4) _ (g .1) in
-        w .1 ∙ eqb-true _ _ (w .2));
+          let r = each-parts (λ k. record-read m bs (record-offset m k)) n j (b .1) lt in
+          let f = and-then-parts (field Copy bs (record-offset m j)) _ (r .0) (r .1) in
+          let g = and-then-parts (required (λ w. eqb w m) bs (record-offset m j + 4)) _ (r .0) (f .2) in
+          let w = required-parts _ bs (record-offset m j + 4) _ (g .1) in
+          w .1 ∙ eqb-true _ _ (w .2));
     }
 
 record-of-in : (bs : List ℕ) (m n k : ℕ) → k < n → record-of m (records-in m bs n) k ≡ record-in m bs (record-offset m k)
@@ -215,15 +215,15 @@ record-of-in bs m (suc n) k lt =
     let long = length-records-in m bs n in
     elim (cases-eq k n) [
       | inl e ↦
-        ap (λ i. take (record-length m) (drop (i * record-length m) (records-in m bs n ++ record-in m bs (record-offset m n)))) e
-        ∙ ap (take (record-length m)) (drop-at (records-in m bs n) (record-in m bs (record-offset m n)) (n * record-length m) long)
-        ∙ take-all (record-length m) (record-in m bs (record-offset m n)) (omega (arith, length-words-at bs (record-offset m n + 8) m))
-        ∙ ap (λ i. record-in m bs (record-offset m i)) (sym e)
+          ap (λ i. take (record-length m) (drop (i * record-length m) (records-in m bs n ++ record-in m bs (record-offset m n)))) e
+          ∙ ap (take (record-length m)) (drop-at (records-in m bs n) (record-in m bs (record-offset m n)) (n * record-length m) long)
+          ∙ take-all (record-length m) (record-in m bs (record-offset m n)) (omega (arith, length-words-at bs (record-offset m n + 8) m))
+          ∙ ap (λ i. record-in m bs (record-offset m i)) (sym e)
       | inr e ↦
-        let room = row-room k n (record-length m) (omega arith) in
-        ap (take (record-length m)) (drop-append-le (k * record-length m) (records-in m bs n) (record-in m bs (record-offset m n)) (omega arith))
-        ∙ take-append-le (record-length m) (drop (k * record-length m) (records-in m bs n)) (record-in m bs (record-offset m n)) (omega (arith, length-drop (k * record-length m) (records-in m bs n)))
-        ∙ record-of-in bs m n k (omega arith)
+          let room = row-room k n (record-length m) (omega arith) in
+          ap (take (record-length m)) (drop-append-le (k * record-length m) (records-in m bs n) (record-in m bs (record-offset m n)) (omega arith))
+          ∙ take-append-le (record-length m) (drop (k * record-length m) (records-in m bs n)) (record-in m bs (record-offset m n)) (omega (arith, length-drop (k * record-length m) (records-in m bs n)))
+          ∙ record-of-in bs m n k (omega arith)
     ]
 
 every-append : (f : ℕ → Bool) (xs ys : List ℕ) → every f xs ≡ true → every f ys ≡ true → every f (xs ++ ys) ≡ true
@@ -246,7 +246,7 @@ module _ (bs : List ℕ) (bytes : Bytes bs) where
   record-stands at m room e =
       stands-append bs at 4 (word-bytes (word-at bs at)) _ refl (word-stands bs at bytes (omega arith))
       (stands-append bs (at + 4) 4 (word-bytes m) _ refl (subst (λ w. Stands bs (at + 4) (word-bytes w)) e (word-stands bs (at + 4) bytes (omega arith)))
-        (stands-at bs (at + 8) (at + 4 + 4) _ (omega arith) (words-stand m (at + 8) (omega arith))))
+      (stands-at bs (at + 8) (at + 4 + 4) _ (omega arith) (words-stand m (at + 8) (omega arith))))
 
   module _ (code n m : ℕ) (a : Accepted code n m bs) where
     records-stand : (k : ℕ) → k ≤ n → Stands bs 12 (joined word-bytes (records-fields m (records-in m bs n) k))
@@ -255,10 +255,10 @@ module _ (bs : List ℕ) (bytes : Bytes bs) where
     records-stand (suc k) le =
         let room = row-room k n (record-size m) (omega arith) in
         let this = subst (λ r. Stands bs (record-offset m k) (joined word-bytes (record-fields m r))) (sym (record-of-in bs m n k (omega arith)))
-            (record-stands (record-offset m k) m (omega (arith, a .size)) (a .words-are k (omega arith))) in
+        (record-stands (record-offset m k) m (omega (arith, a .size)) (a .words-are k (omega arith))) in
         subst (Stands bs 12) (sym (joined-append (records-fields m (records-in m bs n) k) (record-fields m (record-of m (records-in m bs n) k))))
         (stands-append bs 12 (k * record-size m) (joined word-bytes (records-fields m (records-in m bs n) k)) _
-          (length-records-fields m n (records-in m bs n) (length-records-in m bs n) k (omega arith)) (records-stand k (omega arith)) this)
+        (length-records-fields m n (records-in m bs n) (length-records-in m bs n) k (omega arith)) (records-stand k (omega arith)) this)
 
     records-small : (k : ℕ) → k ≤ n → every is-word (records-in m bs k) ≡ true
     unfolding records-in
@@ -275,9 +275,9 @@ module _ (bs : List ℕ) (bytes : Bytes bs) where
         let at-0 = subst (λ w. Stands bs 0 (word-bytes w)) (a .code-is) (word-stands bs 0 bytes (omega arith)) in
         let at-8 = subst (λ w. Stands bs 8 (word-bytes w)) (a .count-is) (word-stands bs 8 bytes (omega arith)) in
         let all : Stands bs 0 (copy-bytes code n m (hand-in n m bs)) =
-            stands-append bs 0 4 (word-bytes code) _ refl at-0
-            (stands-append bs 4 4 (word-bytes (word-at bs 4)) _ refl (word-stands bs 4 bytes (omega arith))
-            (stands-append bs 8 4 (word-bytes n) _ refl at-8 (records-stand n (omega arith)))) in
+        stands-append bs 0 4 (word-bytes code) _ refl at-0
+        (stands-append bs 4 4 (word-bytes (word-at bs 4)) _ refl (word-stands bs 4 bytes (omega arith))
+        (stands-append bs 8 4 (word-bytes n) _ refl at-8 (records-stand n (omega arith)))) in
         front-stands bs (copy-bytes code n m (hand-in n m bs)) all
         ∙ take-all (length (copy-bytes code n m (hand-in n m bs))) bs (omega (arith, length-copy-bytes code n m (hand-in n m bs) (length-hand-in n m bs), a .size))
 
@@ -291,14 +291,14 @@ module _ (bs : List ℕ) (bytes : Bytes bs) where
 pub copy-laws : (code n m : ℕ) (bs : List ℕ) → Bytes bs → Copy-laws code n m bs
 copy-laws code n m bs bytes = record {
   only = λ hand h. (
-    let p = and-then-parts (copy-read code n m bs) _ hand h in
-    let a = accepted code n m bs (p .1) in
-    let same = ok-same _ _ (p .2) in
-    (subst (λ x. sound-copy n m x ≡ true) same (hand-sound bs bytes code n m a), ap (copy-bytes code n m) (sym same) ∙ bytes-back bs bytes code n m a));
+      let p = and-then-parts (copy-read code n m bs) _ hand h in
+      let a = accepted code n m bs (p .1) in
+      let same = ok-same _ _ (p .2) in
+      (subst (λ x. sound-copy n m x ≡ true) same (hand-sound bs bytes code n m a), ap (copy-bytes code n m) (sym same) ∙ bytes-back bs bytes code n m a));
   all = λ hand sound e. (
-    let p = and-parts _ _ sound in
-    let q = and-parts _ _ (p .1) in
-    let long = eqb-true _ _ (p .0) in
-    and-then-from _ _ tt hand (copy-accepted code n m hand bs long (ltb-true _ _ (q .0)) e) (ap Ok (hand-back code n m hand bs long e)));
+      let p = and-parts _ _ sound in
+      let q = and-parts _ _ (p .1) in
+      let long = eqb-true _ _ (p .0) in
+      and-then-from _ _ tt hand (copy-accepted code n m hand bs long (ltb-true _ _ (q .0)) e) (ap Ok (hand-back code n m hand bs long e)));
   sized = λ hand h. (let p = and-then-parts (copy-read code n m bs) _ hand h in accepted code n m bs (p .1) .size);
 }

@@ -58,11 +58,11 @@ module _ (b : ℕ) where
   below-copy code n m bs room =
       below-then (header-read code n bs) _
       (below-then (required (λ w. eqb w code) bs 0) _ (below-required _ bs 0 (omega arith)) (λ c.
-        below-then (required (λ w. ltb w n) bs 4) _ (below-required _ bs 4 (omega arith)) (λ d.
-        below-then (required (λ w. eqb w n) bs 8) _ (below-required _ bs 8 (omega arith)) (λ e. tt)))) (λ u.
+      below-then (required (λ w. ltb w n) bs 4) _ (below-required _ bs 4 (omega arith)) (λ d.
+      below-then (required (λ w. eqb w n) bs 8) _ (below-required _ bs 8 (omega arith)) (λ e. tt)))) (λ u.
       below-then (records-read n m bs) _
       (below-each (λ j. record-read m bs (record-offset m j)) n (λ j lt. (
-        let within = row-room j n (record-size m) lt in below-record m bs (record-offset m j) (omega arith)))) (λ v.
+      let within = row-room j n (record-size m) lt in below-record m bs (record-offset m j) (omega arith)))) (λ v.
       below-cond _ tt (fault Copy (copy-length n m)) room))
 
 pub copy-places : (code n m : ℕ) (bs : List ℕ) → n ≤ max-switches → m ≤ max-nodes → refused (copy-read code n m bs) (λ e. e .place ≤ longest-copy)

@@ -43,7 +43,7 @@ pub record-written : (d b₁ b₂ b₃ r rest : List ℕ) (at m x : ℕ) → len
 record-written d b₁ b₂ b₃ r rest at m x long room first others e₁ e₂ e₃ =
     let tail : length (joined word-bytes (drop 1 r)) ≡ m * 4 = length-fields (drop 1 r) ∙ ap (λ k. k * 4) (length-drop 1 r ∙ omega arith) in
     let two : b₂ ≡ placed d at (word-bytes x ++ word-bytes m) =
-        e₂ ∙ ap (λ b. placed b (at + 4) (word-bytes m)) e₁ ∙ placed-more d at (at + 4) (word-bytes x) (word-bytes m) refl (omega arith) in
+    e₂ ∙ ap (λ b. placed b (at + 4) (word-bytes m)) e₁ ∙ placed-more d at (at + 4) (word-bytes x) (word-bytes m) refl (omega arith) in
     e₃
     ∙ (λ i. placed (two i) (at + 8) (joined word-bytes (others i)))
     ∙ placed-more d at (at + 8) (word-bytes x ++ word-bytes m) (joined word-bytes (drop 1 r)) refl (omega arith)
@@ -94,9 +94,9 @@ copy-written d b₁ b₂ b₃ b₄ hand records code n m s long size first rest 
     let rs : length (hand-records hand) ≡ records-length n m = length-drop 1 hand ∙ omega arith in
     let fields = length-records-fields m n (hand-records hand) rs n (omega arith) in
     let two : b₂ ≡ placed d 0 (word-bytes code ++ word-bytes s) =
-        e₂ ∙ ap (λ b. placed b 4 (word-bytes s)) e₁ ∙ placed-more d 0 4 (word-bytes code) (word-bytes s) refl (omega arith) in
+    e₂ ∙ ap (λ b. placed b 4 (word-bytes s)) e₁ ∙ placed-more d 0 4 (word-bytes code) (word-bytes s) refl (omega arith) in
     let three : b₃ ≡ placed d 0 ((word-bytes code ++ word-bytes s) ++ word-bytes n) =
-        e₃ ∙ ap (λ b. placed b 8 (word-bytes n)) two ∙ placed-more d 0 8 (word-bytes code ++ word-bytes s) (word-bytes n) refl (omega arith) in
+    e₃ ∙ ap (λ b. placed b 8 (word-bytes n)) two ∙ placed-more d 0 8 (word-bytes code ++ word-bytes s) (word-bytes n) refl (omega arith) in
     e₄
     ∙ (λ i. placed (three i) 12 (joined word-bytes (records-fields m (rest i) n)))
     ∙ placed-more d 0 12 ((word-bytes code ++ word-bytes s) ++ word-bytes n) (joined word-bytes (records-fields m (hand-records hand) n)) refl (omega arith)

@@ -27,8 +27,8 @@ module _ {X : Type 0} (part : ℕ → Result X Fault) where
   each-stop i zero e lt before here = let z : ⊥ = omega arith in elim z [ ]
   each-stop i (suc n) e lt before here = elim (cases-eq i n) [
     | inl s ↦
-      ap (λ r. and-then r (λ _. and-then (part n) (λ _. Ok tt))) (ap (each-read part) (sym s) ∙ before)
-      ∙ ap (λ r. and-then {B = Unit {0}} r (λ _. Ok tt)) (ap part (sym s) ∙ here)
+        ap (λ r. and-then r (λ _. and-then (part n) (λ _. Ok tt))) (ap (each-read part) (sym s) ∙ before)
+        ∙ ap (λ r. and-then {B = Unit {0}} r (λ _. Ok tt)) (ap part (sym s) ∙ here)
     | inr s ↦ ap (λ r. and-then r (λ _. and-then (part n) (λ _. Ok tt))) (each-stop i n e (omega arith) before here)
   ]
 

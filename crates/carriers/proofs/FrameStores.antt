@@ -31,9 +31,9 @@ module _ (s : Shape) (x y : List ℕ) (p : ℕ) (fit : frames-fit s x) where
       let a : getD y (k * w) 0 ≡ getD x (k * w) 0 = ap (λ i. getD y i 0) none ∙ getD-other x y (s .capacity) p w (fit .0) kept k 0 ne (omega arith) ∙ ap (λ i. getD x i 0) (sym none) in
       let b = getD-other x y (s .capacity) p w (fit .0) kept k 1 ne (omega arith) in
       let c = getD-other x y (s .capacity) p w (fit .0) kept k 2 ne (omega arith) in
-      let d = getD-other x y (s .capacity) p w (fit .0) kept k 3 ne (omega arith) in
-      ( (λ i. a i * 16777216 + b i * 65536 + c i * 256 + d i)
-      , ap (hand-in (s .switches) (s .nodes)) (part-other x y (s .capacity) p w (fit .0) kept k 4 (copy-length (s .switches) (s .nodes)) lt ne (omega arith))
+      let d = getD-other x y (s .capacity) p w (fit .0) kept k 3 ne (omega arith) in (
+        (λ i. a i * 16777216 + b i * 65536 + c i * 256 + d i),
+        ap (hand-in (s .switches) (s .nodes)) (part-other x y (s .capacity) p w (fit .0) kept k 4 (copy-length (s .switches) (s .nodes)) lt ne (omega arith)),
       )
 
 pub frames-stored : (s : Shape) (x y : List ℕ) (p f : ℕ) (hand : List ℕ) → frames-fit s x → p < s .capacity → length hand ≡ hand-length (s .switches) (s .nodes) → y ≡ placed x (p * frame-place (s .switches) (s .nodes)) (word-bytes f ++ copy-bytes (s .code) (s .switches) (s .nodes) hand) → Stored (frame-flag s x) (frame-flag s y) (frame-copy s x) (frame-copy s y) (s .capacity) p f hand
@@ -49,9 +49,9 @@ frames-stored s x y p f hand fit lt long e =
     record {
       flagged = ap (λ m. word-at m (p * w)) e ∙ word-read (placed x (p * w) (word-bytes f ++ cb)) (p * w) f (stands-left (placed x (p * w) (word-bytes f ++ cb)) (p * w) (word-bytes f) cb (stands-placed x (p * w) (word-bytes f ++ cb) there));
       copied =
-        ap (λ m. hand-in (s .switches) (s .nodes) (take size (drop (p * w + 4) m))) e
-        ∙ ap (hand-in (s .switches) (s .nodes)) (part-placed x (p * w) (word-bytes f ++ cb) 4 size there (omega arith) ∙ take-all size cb (omega arith))
-        ∙ hand-back (s .code) (s .switches) (s .nodes) hand cb long refl;
+          ap (λ m. hand-in (s .switches) (s .nodes) (take size (drop (p * w + 4) m))) e
+          ∙ ap (hand-in (s .switches) (s .nodes)) (part-placed x (p * w) (word-bytes f ++ cb) 4 size there (omega arith) ∙ take-all size cb (omega arith))
+          ∙ hand-back (s .code) (s .switches) (s .nodes) hand cb long refl;
       others = frames-others s x y p fit (subst (λ m. Elsewhere x m (p * w) (p * w + w)) (sym e) (elsewhere-placed x (p * w) (word-bytes f ++ cb) (p * w) (p * w + w) there (omega arith) (omega arith)));
     }
 

@@ -109,9 +109,9 @@ but-other x z c (h ∷ hs) ne o = elim (cases-bool (ltb (h .0) z)) [
     | inr f ↦ rw (e, f, e) (ap (λ r. h ∷ r) (but-other x z c hs ne (o .1)))
   ]
   | inr e ↦
-    let le : z ≤ h .0 = ltb-false _ _ e in
-    let all : All (λ k. z ≤ k .0) (copies-but x (h ∷ hs)) = but-all (λ k. z ≤ k .0) x (h ∷ hs) (le, at-least (h .0) z hs le (o .0)) in
-    rw e (cond-false _ _ _ (ne-eqb z x ne) ∙ sym (inserted-first z c (copies-but x (h ∷ hs)) all))
+      let le : z ≤ h .0 = ltb-false _ _ e in
+      let all : All (λ k. z ≤ k .0) (copies-but x (h ∷ hs)) = but-all (λ k. z ≤ k .0) x (h ∷ hs) (le, at-least (h .0) z hs le (o .0)) in
+      rw e (cond-false _ _ _ (ne-eqb z x ne) ∙ sym (inserted-first z c (copies-but x (h ∷ hs)) all))
 ]
 
 -- The lowest place with a flag
@@ -211,10 +211,10 @@ held-numbered flag copy zero next n = tt
 held-numbered flag copy (suc k) next n = elim (cases-bool (eqb (flag k) 0)) [
   | inl e ↦ rw e (held-numbered flag copy k next (λ j lt. n j (omega arith)))
   | inr e ↦
-    let ne : flag k ≡ 0 → ⊥ = eqb-false _ _ e in
-    let le : flag k ≤ next = n k (omega arith) in
-    let lt : flag k - 1 < next = below (flag k) ne le in
-    rw e (inserted-all (λ h. h .0 < next) _ _ lt (held-numbered flag copy k next (λ j lt′. n j (omega arith))))
+      let ne : flag k ≡ 0 → ⊥ = eqb-false _ _ e in
+      let le : flag k ≤ next = n k (omega arith) in
+      let lt : flag k - 1 < next = below (flag k) ne le in
+      rw e (inserted-all (λ h. h .0 < next) _ _ lt (held-numbered flag copy k next (λ j lt′. n j (omega arith))))
 ]
   where
     below : (f : ℕ) → (f ≡ 0 → ⊥) → f ≤ next → f - 1 < next
@@ -254,17 +254,17 @@ module _ (flag flag′ : ℕ → ℕ) (copy copy′ : ℕ → List ℕ) (c p : �
   held-put-after next hand lt numbered free flagged copied zero past in-range = let z : ⊥ = omega arith in elim z [ ]
   held-put-after next hand lt numbered free flagged copied (suc k) past in-range = elim (cases-eq k p) [
     | inl e ↦
-      let f′ : flag′ k ≡ next + 1 = ap flag′ e ∙ flagged in
-      let f : flag k ≡ 0 = ap flag e ∙ free in
-      with-number _ next (copy′ k) _ f′
-      ∙ (λ i. inserted-by-number (next, (ap copy′ e ∙ copied) i) (held-before k (omega arith) (omega arith) i))
-      ∙ inserted-last next hand _ (held-numbered flag copy k next (λ j l. numbered j (omega arith)))
-      ∙ ap (λ r. r ++ (next, hand) ∷ []) (sym (with-free _ (copy k) _ f))
+        let f′ : flag′ k ≡ next + 1 = ap flag′ e ∙ flagged in
+        let f : flag k ≡ 0 = ap flag e ∙ free in
+        with-number _ next (copy′ k) _ f′
+        ∙ (λ i. inserted-by-number (next, (ap copy′ e ∙ copied) i) (held-before k (omega arith) (omega arith) i))
+        ∙ inserted-last next hand _ (held-numbered flag copy k next (λ j l. numbered j (omega arith)))
+        ∙ ap (λ r. r ++ (next, hand) ∷ []) (sym (with-free _ (copy k) _ f))
     | inr e ↦
-      let o = others k (omega arith) e in
-      with-same _ _ _ _ _ (o .0) (o .1)
-      ∙ ap (with-place (flag k) (copy k)) (held-put-after next hand lt numbered free flagged copied k (omega arith) (omega arith))
-      ∙ with-push _ next (copy k) hand _ (numbered k (omega arith))
+        let o = others k (omega arith) e in
+        with-same _ _ _ _ _ (o .0) (o .1)
+        ∙ ap (with-place (flag k) (copy k)) (held-put-after next hand lt numbered free flagged copied k (omega arith) (omega arith))
+        ∙ with-push _ next (copy k) hand _ (numbered k (omega arith))
   ]
 
   -- a put adds its copy at the end
@@ -280,18 +280,18 @@ module _ (flag flag′ : ℕ → ℕ) (copy copy′ : ℕ → List ℕ) (c p : �
   pub distinct-put : (next : ℕ) → Numbered flag c next → Distinct flag c → flag′ p ≡ next + 1 → Distinct flag′ c
   distinct-put next numbered distinct flagged i j h = elim (cases-eq i p) [
     | inl e ↦
-      let f : flag′ i ≡ next + 1 = ap flag′ e ∙ flagged in
-      let o = others j (h .1) (λ s. omega (arith, h .0)) in
-      let z : ⊥ = omega (arith, o .0, numbered j (h .1), h .2) in elim z [ ]
+        let f : flag′ i ≡ next + 1 = ap flag′ e ∙ flagged in
+        let o = others j (h .1) (λ s. omega (arith, h .0)) in
+        let z : ⊥ = omega (arith, o .0, numbered j (h .1), h .2) in elim z [ ]
     | inr e ↦ elim (cases-eq j p) [
       | inl d ↦
-        let f : flag′ j ≡ next + 1 = ap flag′ d ∙ flagged in
-        let o = others i (omega (arith, h .0, h .1)) e in
-        let z : ⊥ = omega (arith, o .0, numbered i (omega (arith, h .0, h .1)), h .2) in elim z [ ]
+          let f : flag′ j ≡ next + 1 = ap flag′ d ∙ flagged in
+          let o = others i (omega (arith, h .0, h .1)) e in
+          let z : ⊥ = omega (arith, o .0, numbered i (omega (arith, h .0, h .1)), h .2) in elim z [ ]
       | inr d ↦
-        let a = others i (omega (arith, h .0, h .1)) e in
-        let b = others j (h .1) d in
-        a .0 ∙ distinct i j (h .0, h .1, sym (a .0) ∙ h .2 ∙ b .0)
+          let a = others i (omega (arith, h .0, h .1)) e in
+          let b = others j (h .1) d in
+          a .0 ∙ distinct i j (h .0, h .1, sym (a .0) ∙ h .2 ∙ b .0)
     ]
   ]
 
@@ -315,15 +315,15 @@ module _ (flag flag′ : ℕ → ℕ) (copy copy′ : ℕ → List ℕ) (c p : �
   held-retire-below x lt distinct f f′ zero in-range = refl
   held-retire-below x lt distinct f f′ (suc k) in-range = elim (cases-eq k p) [
     | inl e ↦
-      with-free _ (copy′ k) _ (ap flag′ e ∙ f′)
-      ∙ held-retire-below x lt distinct f f′ k (omega arith)
-      ∙ sym (but-same x (copy k) _)
-      ∙ ap (copies-but x) (sym (with-number _ x (copy k) _ (ap flag e ∙ f)))
+        with-free _ (copy′ k) _ (ap flag′ e ∙ f′)
+        ∙ held-retire-below x lt distinct f f′ k (omega arith)
+        ∙ sym (but-same x (copy k) _)
+        ∙ ap (copies-but x) (sym (with-number _ x (copy k) _ (ap flag e ∙ f)))
     | inr e ↦
-      let o = others k (omega arith) e in
-      with-same _ _ _ _ _ (o .0) (o .1)
-      ∙ ap (with-place (flag k) (copy k)) (held-retire-below x lt distinct f f′ k (omega arith))
-      ∙ with-but (flag k) x (copy k) _ (apart x k distinct lt f (omega arith) e) (held-ordered flag copy k)
+        let o = others k (omega arith) e in
+        with-same _ _ _ _ _ (o .0) (o .1)
+        ∙ ap (with-place (flag k) (copy k)) (held-retire-below x lt distinct f f′ k (omega arith))
+        ∙ with-but (flag k) x (copy k) _ (apart x k distinct lt f (omega arith) e) (held-ordered flag copy k)
   ]
 
   -- a retire leaves the other copies
@@ -342,9 +342,9 @@ module _ (flag flag′ : ℕ → ℕ) (copy copy′ : ℕ → List ℕ) (c p : �
     | inr e ↦ elim (cases-eq j p) [
       | inl d ↦ h .2 ∙ ap flag′ d ∙ f′
       | inr d ↦
-        let a = others i (omega (arith, h .0, h .1)) e in
-        let b = others j (h .1) d in
-        a .0 ∙ distinct i j (h .0, h .1, sym (a .0) ∙ h .2 ∙ b .0)
+          let a = others i (omega (arith, h .0, h .1)) e in
+          let b = others j (h .1) d in
+          a .0 ∙ distinct i j (h .0, h .1, sym (a .0) ∙ h .2 ∙ b .0)
     ]
   ]
 
@@ -369,8 +369,8 @@ module _ (flag : ℕ → ℕ) (copy : ℕ → List ℕ) (x : ℕ) where
   under-place-below (suc c) p distinct lt f = elim (cases-eq c p) [
     | inl e ↦ ap (copy-under x) (with-number _ x (copy c) _ (ap flag e ∙ f)) ∙ under-same x (copy c) _ ∙ ap (λ k. Some (copy k)) e
     | inr e ↦
-      let ne : flag c ≡ x + 1 → ⊥ = λ g. (let z = distinct p c (omega arith, omega arith, f ∙ sym g) in omega arith) in
-      with-under-other (flag c) (copy c) _ ne ∙ under-place-below c p (λ i j h. distinct i j (h .0, omega (arith, h .1), h .2)) (omega arith) f
+        let ne : flag c ≡ x + 1 → ⊥ = λ g. (let z = distinct p c (omega arith, omega arith, f ∙ sym g) in omega arith) in
+        with-under-other (flag c) (copy c) _ ne ∙ under-place-below c p (λ i j h. distinct i j (h .0, omega (arith, h .1), h .2)) (omega arith) f
   ]
 
   -- it is the copy at the place with its flag

@@ -31,11 +31,11 @@ placed-more d at to xs ys e room =
     let whole : take at d ++ (xs ++ drop (at + length xs) d) ≡ (take at d ++ xs) ++ drop (at + length xs) d = sym (append-assoc (take at d) xs (drop (at + length xs) d)) in
     let left : take to (take at d ++ (xs ++ drop (at + length xs) d)) ≡ take at d ++ xs = ap (take to) whole ∙ take-at (take at d ++ xs) _ to front in
     let right : drop (to + length ys) (take at d ++ (xs ++ drop (at + length xs) d)) ≡ drop (at + length (xs ++ ys)) d =
-        ap (drop (to + length ys)) whole
-        ∙ sym (drop-drop (length ys) to ((take at d ++ xs) ++ drop (at + length xs) d))
-        ∙ ap (drop (length ys)) (drop-at (take at d ++ xs) _ to front)
-        ∙ drop-drop (length ys) (at + length xs) d
-        ∙ ap (λ k. drop k d) (omega (arith, length-append xs ys)) in
+    ap (drop (to + length ys)) whole
+    ∙ sym (drop-drop (length ys) to ((take at d ++ xs) ++ drop (at + length xs) d))
+    ∙ ap (drop (length ys)) (drop-at (take at d ++ xs) _ to front)
+    ∙ drop-drop (length ys) (at + length xs) d
+    ∙ ap (λ k. drop k d) (omega (arith, length-append xs ys)) in
     (λ i. left i ++ (ys ++ right i)) ∙ append-assoc (take at d) xs (ys ++ drop (at + length (xs ++ ys)) d) ∙ ap (λ r. take at d ++ r) (sym (append-assoc xs ys (drop (at + length (xs ++ ys)) d)))
 
 -- one element right after a part

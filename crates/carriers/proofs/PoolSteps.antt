@@ -47,11 +47,11 @@ module _ (s : Shape) (next : ℕ) (flag : ℕ → ℕ) (copy : ℕ → List ℕ)
       let h = sendable-from (meaning-of s next flag copy) hand long below in
       let at = lowest-some flag 0 (s .capacity) p found in
       let free : length (held-below flag copy (s .capacity)) ≡ s .capacity → ⊥ =
-          λ e. (let u = used-free flag (s .capacity) p (at .0) (at .1) in omega (arith, held-length flag copy (s .capacity))) in
+      λ e. (let u = used-free flag (s .capacity) p (at .0) (at .1) in omega (arith, held-length flag copy (s .capacity))) in
       let space : no-space (meaning-of s next flag copy) ≡ false = or-from _ _ (ne-eqb _ _ free) (ne-eqb _ _ ne) in
       let held = held-put flag flag′ copy copy′ (s .capacity) p (st .others) next hand (at .0) (kept .numbered) (at .1) (st .flagged) (st .copied) in
       let done : meaning-of s (next + 1) flag′ copy′ ≡ with-copy (meaning-of s next flag copy) hand =
-          ap (λ hs. record { code = s .code; switches = s .switches; nodes = s .nodes; capacity = s .capacity; next = next + 1; held = hs }) held in
+      ap (λ hs. record { code = s .code; switches = s .switches; nodes = s .nodes; capacity = s .capacity; next = next + 1; held = hs }) held in
       subst (λ u. Put (meaning-of s next flag copy) (meaning-of u (next + 1) flag′ copy′) hand (Ok next) (Kept u (next + 1) flag′)) (sym same) (record {
         answer = sym (cond-true _ _ _ h ∙ cond-false _ _ _ space);
         meaning = done ∙ sym (cond-true _ _ _ h ∙ cond-false _ _ _ space);
@@ -94,7 +94,7 @@ module _ (s : Shape) (next : ℕ) (flag : ℕ → ℕ) (copy : ℕ → List ℕ)
         let at = lowest-some flag (number + 1) (s .capacity) p found in
         let held = held-retire flag flag′ copy copy′ (s .capacity) p (rel .others) number (at .0) (kept .distinct) (at .1) (rel .freed) in
         let done : meaning-of s next flag′ copy′ ≡ without-copy (meaning-of s next flag copy) number =
-            ap (λ hs. record { code = s .code; switches = s .switches; nodes = s .nodes; capacity = s .capacity; next = next; held = hs }) held in
+        ap (λ hs. record { code = s .code; switches = s .switches; nodes = s .nodes; capacity = s .capacity; next = next; held = hs }) held in
         subst (λ u. Retired (meaning-of s next flag copy) (meaning-of u next flag′ copy′) number (Ok tt) (Kept u next flag′)) (sym same) (record {
           answer = sym (ap found-answer (there p found));
           meaning = done ∙ sym (ap (λ o. retired-or-same o (meaning-of s next flag copy) number) (there p found));

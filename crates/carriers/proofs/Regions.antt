@@ -31,13 +31,13 @@ part-placed d at xs off w room fits =
     let left : length (take w (drop (at + off) (placed d at xs))) ≡ w = length-take-le w _ (omega (arith, length-drop (at + off) (placed d at xs))) in
     let right : length (take w (drop off xs)) ≡ w = length-take-le w _ (omega (arith, length-drop off xs)) in
     ext-getD 0 _ _ (left ∙ sym right) (λ k lt. (
-      let here : k < w = omega arith in
-      getD-take w (drop (at + off) (placed d at xs)) k 0 here
-      ∙ getD-drop (at + off) (placed d at xs) k 0
-      ∙ ap (λ i. getD (placed d at xs) i 0) (plus at off k)
-      ∙ getD-placed-in d at xs (off + k) room (omega arith)
-      ∙ sym (getD-drop off xs k 0)
-      ∙ sym (getD-take w (drop off xs) k 0 here)))
+    let here : k < w = omega arith in
+    getD-take w (drop (at + off) (placed d at xs)) k 0 here
+    ∙ getD-drop (at + off) (placed d at xs) k 0
+    ∙ ap (λ i. getD (placed d at xs) i 0) (plus at off k)
+    ∙ getD-placed-in d at xs (off + k) room (omega arith)
+    ∙ sym (getD-drop off xs k 0)
+    ∙ sym (getD-take w (drop off xs) k 0 here)))
   where
     plus : (a b c : ℕ) → a + b + c ≡ a + (b + c)
     plus a b c = omega arith
@@ -63,14 +63,14 @@ module _ (x y : List ℕ) (c p w : ℕ) (room : c * w ≤ length x) (kept : Else
       let left : length (take n (drop (k * w + off) y)) ≡ n = length-take-le n _ (omega (arith, length-drop (k * w + off) y)) in
       let right : length (take n (drop (k * w + off) x)) ≡ n = length-take-le n _ (omega (arith, length-drop (k * w + off) x)) in
       ext-getD 0 _ _ (left ∙ sym right) (λ i lt. (
-        let here : i < n = omega arith in
-        getD-take n (drop (k * w + off) y) i 0 here
-        ∙ getD-drop (k * w + off) y i 0
-        ∙ ap (λ j. getD y j 0) (plus (k * w) off i)
-        ∙ getD-other k (off + i) ne (omega arith)
-        ∙ ap (λ j. getD x j 0) (sym (plus (k * w) off i))
-        ∙ sym (getD-drop (k * w + off) x i 0)
-        ∙ sym (getD-take n (drop (k * w + off) x) i 0 here)))
+      let here : i < n = omega arith in
+      getD-take n (drop (k * w + off) y) i 0 here
+      ∙ getD-drop (k * w + off) y i 0
+      ∙ ap (λ j. getD y j 0) (plus (k * w) off i)
+      ∙ getD-other k (off + i) ne (omega arith)
+      ∙ ap (λ j. getD x j 0) (sym (plus (k * w) off i))
+      ∙ sym (getD-drop (k * w + off) x i 0)
+      ∙ sym (getD-take n (drop (k * w + off) x) i 0 here)))
     where
       plus : (a b d : ℕ) → a + b + d ≡ a + (b + d)
       plus a b d = omega arith

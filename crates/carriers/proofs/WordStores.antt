@@ -19,9 +19,9 @@ module _ (s : Shape) (x y : List ℕ) (p : ℕ) (fit : words-fit s x) where
   unfolding word-flag word-copy
   words-others kept k lt ne =
       let w = word-place (s .switches) (s .nodes) in
-      let none : k * w ≡ k * w + 0 = omega arith in
-      ( ap (λ i. getD y i 0) none ∙ getD-other x y (s .capacity) p w fit kept k 0 ne (omega arith) ∙ ap (λ i. getD x i 0) (sym none)
-      , part-other x y (s .capacity) p w fit kept k 1 (hand-length (s .switches) (s .nodes)) lt ne (omega arith)
+      let none : k * w ≡ k * w + 0 = omega arith in (
+        ap (λ i. getD y i 0) none ∙ getD-other x y (s .capacity) p w fit kept k 0 ne (omega arith) ∙ ap (λ i. getD x i 0) (sym none),
+        part-other x y (s .capacity) p w fit kept k 1 (hand-length (s .switches) (s .nodes)) lt ne (omega arith),
       )
 
 pub words-stored : (s : Shape) (x y : List ℕ) (p f : ℕ) (hand : List ℕ) → words-fit s x → p < s .capacity → length hand ≡ hand-length (s .switches) (s .nodes) → y ≡ placed x (p * word-place (s .switches) (s .nodes)) (f ∷ hand) → Stored (word-flag s x) (word-flag s y) (word-copy s x) (word-copy s y) (s .capacity) p f hand

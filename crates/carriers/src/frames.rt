@@ -41,7 +41,13 @@ pub(crate) impl<'a> Places for Frames<'a> as FramePlaces {
         let nodes = self.shape.nodes as usize;
         let size = copy_length(count, nodes);
         put_word(self.memory, at, flag);
-        write_hand(self.shape.code, count, nodes, hand, &mut self.memory[at + 4..at + 4 + size]);
+        write_hand(
+            self.shape.code,
+            count,
+            nodes,
+            hand,
+            &mut self.memory[at + 4..at + 4 + size],
+        );
     }
 
     fn release(&mut self, place: usize) {

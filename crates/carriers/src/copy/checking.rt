@@ -100,12 +100,7 @@ fn check_header(reader: &mut Reader, code: u32, count: usize) -> Result<(), Faul
 }
 
 // Whether the bytes are one copy and no more.
-pub(crate) fn check_bytes(
-    code: u32,
-    count: usize,
-    nodes: usize,
-    bytes: &[u8],
-) -> Result<(), Fault>
+pub(crate) fn check_bytes(code: u32, count: usize, nodes: usize, bytes: &[u8]) -> Result<(), Fault>
     requires { ⌜ count ≤ max-switches ⌝ ∗ ⌜ nodes ≤ max-nodes ⌝ }
     ensures value { λ r. ⌜ r ≡ copy-read code count nodes (now (bytes .entry)) ⌝ }
     ensures sized { λ r. ⌜ made r (λ _. length (now (bytes .entry)) ≡ copy-length count nodes) ⌝ }

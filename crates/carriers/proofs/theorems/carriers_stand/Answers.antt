@@ -41,9 +41,10 @@ rising-push [] n hand r a = (tt, tt)
 rising-push (h ∷ hs) n hand r a = (all-push (λ k. h .0 < k .0) hs (n, hand) (r .0) (a .0), rising-push hs n hand (r .1) (a .1))
 
 put-in-order : (c : Meaning) (hand : List ℕ) → In-order c → In-order (with-copy c hand)
-put-in-order c hand o =
-    (rising-push (c .held) (c .next) hand (o .0) (o .1)
-    , all-push (λ h. h .0 < c .next + 1) (c .held) (c .next, hand) (below-more (c .next) (c .next + 1) (c .held) (omega arith) (o .1)) (omega arith))
+put-in-order c hand o = (
+  rising-push (c .held) (c .next) hand (o .0) (o .1),
+  all-push (λ h. h .0 < c .next + 1) (c .held) (c .next, hand) (below-more (c .next) (c .next + 1) (c .held) (omega arith) (o .1)) (omega arith),
+)
 
 but-all : (P : Held → Type 0) (x : ℕ) (hs : List Held) → All P hs → All P (copies-but x hs)
 unfolding copies-but
@@ -70,10 +71,10 @@ retire-in-order None c number i = i
 retire-in-order (Some copy) c number i = (but-rising number (c .held) (i .0), but-all (λ h. h .0 < c .next) number (c .held) (i .1))
 
 in-order : Stays-in-order
-in-order c o =
-    ( (λ hand. either (sendable c hand) (cond (no-space c) c (with-copy c hand)) c (either (no-space c) c (with-copy c hand) o (put-in-order c hand o)) o)
-    , (λ number. retire-in-order (copy-under number (c .held)) c number o)
-    )
+in-order c o = (
+  (λ hand. either (sendable c hand) (cond (no-space c) c (with-copy c hand)) c (either (no-space c) c (with-copy c hand) o (put-in-order c hand o)) o),
+  (λ number. retire-in-order (copy-under number (c .held)) c number o),
+)
 
 pub returns : need.returns
 returns c = record { agree = agree; order = in-order; worked = (refl, refl, refl, refl) }

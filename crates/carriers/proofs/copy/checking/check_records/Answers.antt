@@ -16,7 +16,7 @@ pub returns-in-Break-check-record : need.returns-in-Break-check-record
 returns-in-Break-check-record c =
     let p = err-from-errBy (c .from-residual .result) (c .from-residual .ensures .1) in
     let reads : record-read (c .args .nodes) (now (c .args .reader .now .bytes)) (record-offset (c .args .nodes) (c .loop-j .-j)) ≡ Err _ =
-        (λ i. record-read (c .args .nodes) (sym (c .loop-j .inv .0) i) (sym (c .loop-j .inv .2) i)) ∙ sym (c .check-record .ensures .value) ∙ c .in-Break-check-record .was tt in
+    (λ i. record-read (c .args .nodes) (sym (c .loop-j .inv .0) i) (sym (c .loop-j .inv .2) i)) ∙ sym (c .check-record .ensures .value) ∙ c .in-Break-check-record .was tt in
     rw (p .1, p .2) (record {
       value = sym (each-stop (λ j. record-read (c .args .nodes) (now (c .args .reader .now .bytes)) (record-offset (c .args .nodes) j)) (c .loop-j .-j) (c .args .count) _ (c .loop-j-test .taken) (c .loop-j .inv .3) reads);
       reader = search needs;
@@ -28,7 +28,7 @@ loop-j-holds c = (refl, c .pre .0, c .pre .1 .0 ∙ omega arith, each-none (λ j
 pub loop-j-again : need.loop-j-again
 loop-j-again c =
     let reads : record-read (c .args .nodes) (now (c .args .reader .now .bytes)) (record-offset (c .args .nodes) (c .loop-j .-j)) ≡ Ok tt =
-        (λ i. record-read (c .args .nodes) (sym (c .loop-j .inv .0) i) (sym (c .loop-j .inv .2) i)) ∙ sym (c .check-record .ensures .value) ∙ c .in-Continue-check-record .was tt in
+    (λ i. record-read (c .args .nodes) (sym (c .loop-j .inv .0) i) (sym (c .loop-j .inv .2) i)) ∙ sym (c .check-record .ensures .value) ∙ c .in-Continue-check-record .was tt in
     let well : isOk (c .check-record .result) ≡ true = ap isOk (c .in-Continue-check-record .was tt) in
     let moved : c .check-record .last .reader .at ≡ c .loop-j .reader .at + record-size (c .args .nodes) = c .check-record .ensures .reader .at well in (
       search needs,

@@ -19,7 +19,7 @@ loop-j-again c =
     let from = c .start-in-hand-from .result in
     let wide : from + c .args .nodes + 1 - from ≡ c .args .nodes + 1 = omega arith in
     let part : take (from + c .args .nodes + 1 - from) (drop from (c .args .records .now)) ≡ record-of (c .args .nodes) (c .args .records .now) (c .loop-j .j) =
-        (λ i. take (wide i) (drop (c .start-in-hand-from .ensures .value i) (c .args .records .now))) in
+    (λ i. take (wide i) (drop (c .start-in-hand-from .ensures .value i) (c .args .records .now))) in
     records-turn (c .args .bytes .now) _ _ (c .args .records .now) (take (from + c .args .nodes + 1 - from) (drop from (c .args .records .now))) (c .args .count) (c .args .nodes) (c .loop-j .j) _ (c .pre .1 .1 .0) (c .pre .1 .1 .1) (c .loop-j-test .taken) (c .start-in-bytes-at .ensures .value) part (c .loop-j .inv) (c .put-record .ensures)
 
 pub returns : need.returns

@@ -26,9 +26,10 @@ ghost-result-2 c =
     let size = length (c .fill .last .self) in
     let w = frame-place (c .args .switches) (c .args .nodes) in
     let zeros = c .fill .ensures .after (λ y e. e) in
-    let few-room : size / (4 + c .copy-length .result) * w ≤ size = subst (λ v. size / (4 + v) * w ≤ size) (sym (c .copy-length .ensures)) (div-mul-le-self size w) in
-    ( (few-room, (λ _. few .0), (λ _. few .1))
-    , (numbered-zero _ _ (frame-flags-zero _ (c .fill .last .self) _ zeros), (distinct-zero _ _ (frame-flags-zero _ (c .fill .last .self) _ zeros), tt)))
+    let few-room : size / (4 + c .copy-length .result) * w ≤ size = subst (λ v. size / (4 + v) * w ≤ size) (sym (c .copy-length .ensures)) (div-mul-le-self size w) in (
+      (few-room, (λ _. few .0), (λ _. few .1)),
+      (numbered-zero _ _ (frame-flags-zero _ (c .fill .last .self) _ zeros), (distinct-zero _ _ (frame-flags-zero _ (c .fill .last .self) _ zeros), tt)),
+    )
 
 pub returns : need.returns
 returns c =

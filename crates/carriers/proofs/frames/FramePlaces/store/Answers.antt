@@ -25,9 +25,9 @@ returns c =
     let wide : length cb ≡ copy-length (s .switches) (s .nodes) = length-copy-bytes (s .code) (s .switches) (s .nodes) hand long in
     let size : length (c .write-hand .last .bytes) ≡ at + 4 + c .copy-length-size .result - (at + 4) = ap length (c .write-hand .ensures) ∙ omega (arith, c .copy-length-size .ensures) in
     let written : putMid (at + 4) (at + 4 + c .copy-length-size .result - (at + 4)) (c .put-word .last .bytes) (c .write-hand .last .bytes) ≡ placed x at (flag ++ cb) =
-        putMid-placed (at + 4) _ (c .put-word .last .bytes) _ size
-        ∙ (λ i. placed (c .put-word .ensures i) (at + 4) (c .write-hand .ensures i))
-        ∙ placed-more x at (at + 4) flag cb refl (omega arith) in
+    putMid-placed (at + 4) _ (c .put-word .last .bytes) _ size
+    ∙ (λ i. placed (c .put-word .ensures i) (at + 4) (c .write-hand .ensures i))
+    ∙ placed-more x at (at + 4) flag cb refl (omega arith) in
     let same = ap length written ∙ length-placed x at (flag ++ cb) (omega (arith, length-append flag cb)) in
     record {
       places = frames-stored s x _ (c .args .place) (c .args .flag) hand (c .pre .0) (c .pre .1 .0) long (written ∙ ap (λ k. placed x k (flag ++ cb)) (c .start-at .ensures .value));

@@ -7,10 +7,13 @@ use Rattle.carriers.proofs.PoolSteps.{fetch-absent, fetch-there}
 use Rattle.carriers.proofs.pool.Pool.fetch.Needs as need
 
 pub load-requires : need.load-requires
-load-requires g c κs =
-    (c .pre .0
-    , (lowest-some _ _ _ (c .in-Some .place) (sym (c .place-of .ensures) ∙ c .in-Some .is) .0
-    , c .if-hand-hand-length .left ∙ c .hand-length .ensures ∙ ap (λ s. hand-length (s .switches) (s .nodes)) (c .shape-shape .ensures)))
+load-requires g c κs = (
+  c .pre .0,
+  (
+    lowest-some _ _ _ (c .in-Some .place) (sym (c .place-of .ensures) ∙ c .in-Some .is) .0,
+    c .if-hand-hand-length .left ∙ c .hand-length .ensures ∙ ap (λ s. hand-length (s .switches) (s .nodes)) (c .shape-shape .ensures),
+  ),
+)
 
 pub returns-in-None : need.returns-in-None
 returns-in-None g c =

@@ -7,10 +7,13 @@ use Rattle.carriers.proofs.PoolSteps.{put-full, put-stored}
 use Rattle.carriers.proofs.pool.Pool.put.Needs as need
 
 pub store-requires : need.store-requires
-store-requires g c κs =
-    (c .pre .0
-    , (lowest-some _ 0 _ (c .in-Some .place) (sym (c .lowest .ensures) ∙ c .in-Some .is) .0
-    , c .if-hand-hand-length .left ∙ c .hand-length .ensures ∙ ap (λ s. hand-length (s .switches) (s .nodes)) (c .shape-shape .ensures)))
+store-requires g c κs = (
+  c .pre .0,
+  (
+    lowest-some _ 0 _ (c .in-Some .place) (sym (c .lowest .ensures) ∙ c .in-Some .is) .0,
+    c .if-hand-hand-length .left ∙ c .hand-length .ensures ∙ ap (λ s. hand-length (s .switches) (s .nodes)) (c .shape-shape .ensures),
+  ),
+)
 
 pub returns-in-None : need.returns-in-None
 returns-in-None g c =

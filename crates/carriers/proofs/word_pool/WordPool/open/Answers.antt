@@ -26,9 +26,10 @@ ghost-result-2 c =
     let size = length (c .fill .last .self) in
     let w = word-place (c .args .switches) (c .args .nodes) in
     let zeros = c .fill .ensures .after (λ y e. e) in
-    let few-room : size / (1 + c .hand-length .result) * w ≤ size = subst (λ v. size / (1 + v) * w ≤ size) (sym (c .hand-length .ensures)) (div-mul-le-self size w) in
-    ( few-room
-    , (numbered-zero _ _ (word-flags-zero _ (c .fill .last .self) _ zeros), (distinct-zero _ _ (word-flags-zero _ (c .fill .last .self) _ zeros), tt)))
+    let few-room : size / (1 + c .hand-length .result) * w ≤ size = subst (λ v. size / (1 + v) * w ≤ size) (sym (c .hand-length .ensures)) (div-mul-le-self size w) in (
+      few-room,
+      (numbered-zero _ _ (word-flags-zero _ (c .fill .last .self) _ zeros), (distinct-zero _ _ (word-flags-zero _ (c .fill .last .self) _ zeros), tt)),
+    )
 
 pub returns : need.returns
 returns c =

@@ -19,9 +19,9 @@ returns c =
     let copied = c .copy-from-slice .ensures .after in
     let size : length (c .copy-from-slice .last .self) ≡ at + 1 + length hand - (at + 1) = ap length copied ∙ omega arith in
     let written : putMid (at + 1) (at + 1 + length hand - (at + 1)) (set x at (c .args .flag)) (c .copy-from-slice .last .self) ≡ placed x at (c .args .flag ∷ hand) =
-        putMid-placed (at + 1) _ (set x at (c .args .flag)) _ size
-        ∙ (λ i. placed (set-placed x at (c .args .flag) (omega arith) i) (at + 1) (copied i))
-        ∙ placed-more x at (at + 1) (c .args .flag ∷ []) hand refl (omega arith) in
+    putMid-placed (at + 1) _ (set x at (c .args .flag)) _ size
+    ∙ (λ i. placed (set-placed x at (c .args .flag) (omega arith) i) (at + 1) (copied i))
+    ∙ placed-more x at (at + 1) (c .args .flag ∷ []) hand refl (omega arith) in
     record {
       places = words-stored (c .args .self .now .shape) x _ (c .args .place) (c .args .flag) hand (c .pre .0) (c .pre .1 .0) long (written ∙ ap (λ k. placed x k (c .args .flag ∷ hand)) (c .start-at .ensures .value));
       shape = refl;
