@@ -1,0 +1,12 @@
+pub mod Copies
+pub mod CopyCalls
+pub mod CopyLaws
+pub mod Figures
+pub mod FramePlaces
+pub mod Meanings
+pub mod Memory
+pub mod Places
+pub mod Pools
+pub mod Runs
+pub mod Stores
+pub mod WordPlaces
