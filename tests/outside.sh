@@ -1,9 +1,9 @@
 #!/usr/bin/env bash
-# Checks the static library from outside: C programs, Python reference, XDR library.
+# Checks the static libraries from outside: C programs, Python reference, XDR library.
 #
-# Usage: tests/outside.sh [LIBTABLE_A]
+# Usage: tests/outside.sh [DIRECTORY]
 #
-# Builds the library first, unless the path of one is given. Installs the Debian packages
+# Builds the libraries first, unless their directory is given. Installs the Debian packages
 # that are missing, for which it must run as root.
 # shellcheck disable=SC2086 # flags and packages are lists of words
 set -euo pipefail
@@ -38,39 +38,46 @@ sanitizer_flags() {
     fi
 }
 
-# compile NAME WORD... : makes $out/NAME from the sources, linked with the static library.
+# compile NAME WORD... : makes $out/NAME from the sources, linked with the static libraries.
 compile() {
     local name=$1
     shift
     gcc -std=c11 -D_DEFAULT_SOURCE -O1 -g -Wall -Wextra -Werror $sanitizers \
-        -Iinclude -Itests/c "$@" "$library" -o "$out/$name"
+        -Iinclude -Itests/c "$@" $libraries -o "$out/$name"
 }
 
 # rpcgen's code has unused variables, so it is compiled without warnings.
 compile_codec() {
     formats/make_codec.sh "$out"
     gcc -w -O1 -g $tirpc -c "$out/table_codec.c" -o "$out/table_codec.o"
+    gcc -w -O1 -g $tirpc -c "$out/copy_codec.c" -o "$out/copy_codec.o"
 }
 
 install_packages
 mkdir -p "$out"
 
-library=${1:-target/staticlib/libtable.a}
-if [ $# -eq 0 ]; then
-    rt staticlib table >"$out/staticlib.log" 2>&1 || {
+# The copy codec is no call for firmware, so the tests have it in a library of their own.
+directory=${1:-target/staticlib}
+libraries=
+for name in table carriers copy_probe; do
+    libraries="$libraries $directory/lib$name.a"
+    [ $# -eq 0 ] || continue
+    rt staticlib "$name" >"$out/staticlib.log" 2>&1 || {
         cat "$out/staticlib.log" >&2
         exit 1
     }
-fi
+done
 
 sanitizers=$(sanitizer_flags)
 compile_codec
 compile table_check_demo tests/c/table_check_demo.c
 compile table_check_batch tests/c/table_check_batch.c
 compile table_xdr $tirpc -I"$out" tests/xdr/table_xdr.c "$out/table_codec.o" -ltirpc
+compile copy_xdr $tirpc -I"$out" tests/xdr/copy_xdr.c "$out/copy_codec.o" -ltirpc
 
 "$out/table_check_demo"
 python3 tests/table_examples.py "$out/table_check_batch"
 python3 tests/table_cases.py "$out/table_check_batch"
 python3 tests/table_random.py "$out/table_check_batch"
 python3 tests/xdr/table_xdr.py "$out/table_xdr"
+"$out/copy_xdr" 1 2000
