@@ -18,13 +18,7 @@ fn outcome(r: Result<(), Fault>) -> u32
 }
 
 #[unsafe(no_mangle)]
-pub extern "C" fn copy_probe_write(
-    code: u32,
-    n: u32,
-    m: u32,
-    hand: &[u32],
-    bytes: &mut [u8],
-) -> u32
+pub extern "C" fn copy_probe_write(code: u32, n: u32, m: u32, hand: &[u32], bytes: &mut [u8]) -> u32
     ensures answer { λ r. ⌜ r ≡ reason-number (write-answer code n m (now (hand .entry)) (now (bytes .entry))) ⌝ }
     ensures bytes { λ _. ⌜ now (bytes .exit) ≡ after (write-answer code n m (now (hand .entry)) (now (bytes .entry))) (copy-bytes code n m (now (hand .entry))) (now (bytes .entry)) ⌝ }
 {
@@ -32,13 +26,7 @@ pub extern "C" fn copy_probe_write(
 }
 
 #[unsafe(no_mangle)]
-pub extern "C" fn copy_probe_read(
-    code: u32,
-    n: u32,
-    m: u32,
-    bytes: &[u8],
-    hand: &mut [u32],
-) -> u32
+pub extern "C" fn copy_probe_read(code: u32, n: u32, m: u32, bytes: &[u8], hand: &mut [u32]) -> u32
     ensures answer { λ r. ⌜ r ≡ reason-number (read-answer code n m (now (bytes .entry)) (now (hand .entry))) ⌝ }
     ensures hand { λ _. ⌜ now (hand .exit) ≡ after (read-answer code n m (now (bytes .entry)) (now (hand .entry))) (hand-in n m (now (bytes .entry))) (now (hand .entry)) ⌝ }
 {
