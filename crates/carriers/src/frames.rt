@@ -6,11 +6,11 @@ ghost use lib.ListN.{length};
 ghost use mathlib.Core.Path.{_≡_};
 use crate::copy::copy_length;
 use crate::copy::filling::fill_hand;
+use crate::copy::filling::word;
 use crate::copy::writing::put_word;
 use crate::copy::writing::write_hand;
 use crate::places::Places;
 use crate::places::Shape;
-use table::reader::word;
 
 #[derive(Drop)]
 pub(crate) struct Frames<'a> {

@@ -68,7 +68,7 @@ fn advance_in<K: Reading>(
 }
 
 // Makes the next state of `switch` from its block.
-pub fn advance<K: Reading>(table: &Checked, switch: usize, block: &mut [u32]) -> Outcome
+pub(crate) fn advance<K: Reading>(table: &Checked, switch: usize, block: &mut [u32]) -> Outcome
     requires { ⌜ Fitting (view (now table)) switch (now block) ⌝ ∗ ⌜ own-count (length (view (now table) .nodes)) switch (now block) < max-count ⌝ }
     ensures block { λ _. ⌜ now (block .exit) ≡ advanced (word-kind word reading joined less inside equal) (view (now (table .entry))) switch (now (block .entry)) ⌝ }
     ensures count { λ r. ⌜ r .count ≡ own-count (length (view (now (table .entry)) .nodes)) switch (now (block .entry)) + 1 ⌝ }

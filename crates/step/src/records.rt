@@ -8,7 +8,7 @@ ghost use mathlib.Core.List.{_∷_};
 ghost use mathlib.Core.Path.{_≡_};
 
 // Where record `j` of `count` begins.
-pub fn start(j: usize, width: usize, count: usize) -> usize
+pub(crate) fn start(j: usize, width: usize, count: usize) -> usize
     requires { ⌜ j < count ⌝ ∗ ⌜ count * width < 2 ^ 62 ⌝ }
     ensures value { λ r. ⌜ r ≡ j * width ⌝ }
     ensures inside { λ r. ⌜ r + width ≤ count * width ⌝ }
@@ -25,7 +25,7 @@ fn is_newer(copy: &[u32], block: &[u32], nodes: usize, count: usize, j: usize) -
 }
 
 // Replaces record `j`.
-pub fn put_record(block: &mut [u32], nodes: usize, count: usize, j: usize, words: &[u32])
+pub(crate) fn put_record(block: &mut [u32], nodes: usize, count: usize, j: usize, words: &[u32])
     requires { ⌜ j < count ⌝ ∗ ⌜ count * (nodes + 1) ≤ length (now block) ⌝ ∗ ⌜ length (now words) ≡ nodes + 1 ⌝ }
     ensures { λ _. ⌜ now (block .exit) ≡ put-record nodes (now (block .entry)) j (now (words .entry)) ⌝ }
 {
@@ -55,7 +55,7 @@ fn take_one(block: &mut [u32], copy: &[u32], nodes: usize, count: usize, switch:
 }
 
 // The first `count` records, each where the copy's is newer; never the own one.
-pub fn take_over(block: &mut [u32], copy: &[u32], nodes: usize, count: usize, switch: usize)
+pub(crate) fn take_over(block: &mut [u32], copy: &[u32], nodes: usize, count: usize, switch: usize)
     requires { ⌜ count * (nodes + 1) ≤ length (now block) ⌝ ∗ ⌜ count * (nodes + 1) ≤ length (now copy) ⌝ }
     ensures { λ _. ⌜ now (block .exit) ≡ taken nodes switch (now (copy .entry)) (now (block .entry)) count ⌝ }
 {
@@ -65,7 +65,7 @@ pub fn take_over(block: &mut [u32], copy: &[u32], nodes: usize, count: usize, sw
 }
 
 // The own record: its count, and its words.
-pub fn put_own(
+pub(crate) fn put_own(
     block: &mut [u32],
     nodes: usize,
     count: usize,
@@ -82,7 +82,7 @@ pub fn put_own(
 }
 
 // The count of record `j`.
-pub fn count_of(block: &[u32], nodes: usize, count: usize, j: usize) -> u32
+pub(crate) fn count_of(block: &[u32], nodes: usize, count: usize, j: usize) -> u32
     requires { ⌜ j < count ⌝ ∗ ⌜ count * (nodes + 1) ≤ length (now block) ⌝ }
     ensures { λ r. ⌜ r ≡ count-of (record-of nodes (now (block .entry)) j) ⌝ }
 {
@@ -90,7 +90,7 @@ pub fn count_of(block: &[u32], nodes: usize, count: usize, j: usize) -> u32
 }
 
 // The records of a hand, after its sender, each where it is newer.
-pub fn take_hand(block: &mut [u32], hand: &[u32], nodes: usize, count: usize, switch: usize)
+pub(crate) fn take_hand(block: &mut [u32], hand: &[u32], nodes: usize, count: usize, switch: usize)
     requires { ⌜ count * (nodes + 1) ≤ length (now block) ⌝ ∗ ⌜ length (now hand) ≡ hand-length count nodes ⌝ }
     ensures value { λ _. ⌜ now (block .exit) ≡ taken nodes switch (hand-records (now (hand .entry))) (now (block .entry)) count ⌝ }
     ensures own { λ _. ⌜ own-count nodes switch (now (block .exit)) ≡ own-count nodes switch (now (block .entry)) ⌝ }
@@ -99,7 +99,7 @@ pub fn take_hand(block: &mut [u32], hand: &[u32], nodes: usize, count: usize, sw
 }
 
 // Writes a register, after the `count` records.
-pub fn set_register(
+pub(crate) fn set_register(
     block: &mut [u32],
     nodes: usize,
     count: usize,

@@ -46,7 +46,7 @@ fn own_word<'a, K: Reading>(
 }
 
 // Works out the own words from node 0 upward.
-pub fn own_words<K: Reading>(
+pub(crate) fn own_words<K: Reading>(
     place: Place,
     nodes: &[Node],
     block: &[u32],
@@ -70,7 +70,7 @@ fn is_broken(rule: Rule, switch: usize, words: &[u32]) -> bool
 }
 
 // The broken mask: bit r is set where rule r is broken.
-pub fn broken(rules: &[Rule], switch: usize, words: &[u32]) -> u32
+pub(crate) fn broken(rules: &[Rule], switch: usize, words: &[u32]) -> u32
     requires { ⌜ length (now rules) ≤ max-rules ⌝ ∗ ⌜ rules-below (length (now words)) (now rules) ≡ true ⌝ }
     ensures { λ r. ⌜ r ≡ mask switch (now (words .entry)) (now (rules .entry)) ⌝ }
 {

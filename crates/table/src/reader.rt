@@ -16,4 +16,4 @@ pub struct Reader<'a> {
 
 mod fields;
 
-pub use fields::word;
+pub(crate) use fields::word;

@@ -5,11 +5,19 @@ ghost use Rattle.carriers.specs.Memory.{placed};
 ghost use Rattle.step.specs.Records.{hand-length, record-length};
 ghost use Rattle.table.specs.Limits.{max-nodes, max-switches};
 ghost use Rattle.table.specs.Tables.{words-at};
+ghost use Rattle.table.specs.Wire.{word-at};
 ghost use lib.ListN.{length};
 ghost use mathlib.Core.Path.{_≡_};
 use crate::copy::writing::start_in_bytes;
 use crate::copy::writing::start_in_hand;
-use table::reader::word;
+
+// The word at offset `at`, high byte first.
+pub(crate) fn word(bytes: &[u8], at: usize) -> u32
+    requires { ⌜ at + 4 ≤ length (now bytes) ⌝ }
+    ensures { λ r. ⌜ r ≡ word-at (now (bytes .entry)) at ⌝ }
+{
+    u32::from_be_bytes([bytes[at], bytes[at + 1], bytes[at + 2], bytes[at + 3]])
+}
 
 fn take_words(bytes: &[u8], at: usize, count: usize, hand: &mut [u32], to: usize)
     requires { ⌜ at + count * 4 ≤ length (now bytes) ⌝ ∗ ⌜ to + count ≤ length (now hand) ⌝ }

@@ -28,7 +28,7 @@ fn word_in(records: &[u32], count: usize, nodes: usize, j: usize, i: usize) -> u
 }
 
 impl<'a> Sight<'a> {
-    pub fn new(
+    pub(crate) fn new(
         switch: usize,
         switches: usize,
         nodes: usize,
@@ -128,7 +128,7 @@ impl Sight<'_> {
     }
 
     // The word of node `i`, which names only lower nodes.
-    pub fn word<K: Reading>(&self, node: Node, i: usize, past: Past) -> u32
+    pub(crate) fn word<K: Reading>(&self, node: Node, i: usize, past: Past) -> u32
         requires { ⌜ names-below (now self .switches) (length (now (now self .words))) node ≡ true ⌝ ∗ ⌜ length (now (now self .words)) ≤ now self .nodes ⌝ ∗ ⌜ i < now self .nodes ⌝ }
         ensures { λ r. ⌜ r ≡ node-word (word-kind word reading joined less inside equal) (seen (now (self .entry))) (past-of (seen (now (self .entry))) past i) node ⌝ }
     {

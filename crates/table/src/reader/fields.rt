@@ -11,7 +11,7 @@ use crate::fault::Reason;
 use crate::reader::Reader;
 
 // The word at offset `at`.
-pub fn word(bytes: &[u8], at: usize) -> u32
+pub(crate) fn word(bytes: &[u8], at: usize) -> u32
     requires { ⌜ at + 4 ≤ length (now bytes) ⌝ }
     ensures { λ r. ⌜ r ≡ word-at (now (bytes .entry)) at ⌝ }
 {

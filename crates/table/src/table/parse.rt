@@ -73,7 +73,7 @@ fn read_rule(reader: &mut Reader, switches: usize, nodes: &[Node], i: usize) -> 
 }
 
 // The first `count` nodes, into the front of `nodes`.
-pub fn read_nodes(
+pub(crate) fn read_nodes(
     reader: &mut Reader,
     switches: usize,
     count: usize,
@@ -159,7 +159,7 @@ fn read_code<K: Reading>(reader: &mut Reader) -> Result<u32, Fault>
 }
 
 // The kind's code, the number of switches and the number of nodes.
-pub fn read_header<K: Reading>(reader: &mut Reader) -> Result<Header, Fault>
+pub(crate) fn read_header<K: Reading>(reader: &mut Reader) -> Result<Header, Fault>
     requires { ⌜ now reader .short ≡ TableLength ⌝ ∗ ⌜ now reader .at ≡ 0 ⌝ }
     ensures value { λ r. ⌜ r ≡ header-of code (now (now (reader .entry) .bytes)) ⌝ }
     ensures range { λ r. ⌜ made r (λ h. (h .switches ≤ max-switches) × (h .nodes ≤ max-nodes)) ⌝ }
@@ -172,7 +172,7 @@ pub fn read_header<K: Reading>(reader: &mut Reader) -> Result<Header, Fault>
 }
 
 // The rules' count, and the rules into the front of `rules`.
-pub fn read_all_rules(
+pub(crate) fn read_all_rules(
     reader: &mut Reader,
     switches: usize,
     nodes: &[Node],
@@ -204,7 +204,7 @@ fn read_exactly(reader: &mut Reader, count: usize) -> Result<usize, Fault>
 }
 
 // Reads past the starting words' count and the words.
-pub fn read_starts(
+pub(crate) fn read_starts(
     reader: &mut Reader,
     switches: usize,
     nodes: usize,
