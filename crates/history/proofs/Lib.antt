@@ -1,0 +1,3 @@
+pub mod Carrier
+pub mod Memory
+pub mod Rows
