@@ -7,7 +7,7 @@ use mathlib.Core.Logic.{_≢_, inl, inr}
 use mathlib.Core.Path.{_≡_, refl, sym, ap, _∙_}
 use native.Mathlib.Omega.{arith}
 use Rattle.std.proofs.shelf.Elements.{all-push, all-weaker}
-use Rattle.std.proofs.shelf.Tests.{cases-bool, cond-true, cond-false, eq-eqb, ne-eqb, eqb-true, eqb-false}
+use Rattle.std.proofs.shelf.Tests.{cases-bool, cond-true, cond-false, eq-eqb, ne-eqb, eqb-true}
 use Rattle.std.specs.declared.option.Option.{Option}
 use Rattle.std.specs.declared.option.Option.the-variants.{Some, None}
 use Rattle.std.specs.shelf.Lists.{All}
