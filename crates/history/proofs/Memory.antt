@@ -1,18 +1,23 @@
 -- The blocks of a fleet's memory. Assumes nothing.
 use Prim.Native.Nat.{ℕ, zero, suc, _*_, _<_, _≤_}
-use lib.ListN.{length, take, drop}
+use lib.ListN.{length, take, drop, replicate}
 use mathlib.Core.Bool.{true}
 use mathlib.Core.List.{List, _++_}
 use mathlib.Core.Logic.{_≢_, inl, inr}
 use mathlib.Core.Path.{_≡_, sym, ap, _∙_}
 use native.Mathlib.Nat.{suc-mul}
 use native.Mathlib.Omega.{arith}
-use Rattle.std.proofs.shelf.Lists.{length-append, drop-append-le, drop-at, length-drop, take-all, take-append-le}
+use Rattle.std.proofs.shelf.Lists.{length-append, length-replicate, drop-append-le, drop-at, length-drop, take-all, take-append-le}
 use Rattle.std.proofs.shelf.Tests.{cases-eq}
+use Rattle.table.specs.Limits.{register-count}
 use Rattle.table.specs.Tables.{Table, sound}
 use Rattle.step.specs.Nodes.{Word-kind}
-use Rattle.step.specs.Opening.{opened}
+use Rattle.step.specs.Opening.{columns, opened, start-registers}
+use Rattle.step.specs.Records.{record-length, record-of, record-start, records-length}
+use Rattle.step.specs.Steps.{Fitting}
+use Rattle.step.proofs.FirstWords.{columns-kept}
 use Rattle.step.proofs.OpeningMeaning.{opened-length}
+use Rattle.step.proofs.RecordLaws.{part-below}
 use Rattle.step.proofs.Rows.{row-inside}
 use Rattle.history.specs.Calls.{block-at, block-size, first-blocks, first-memory, put-block}
 use Rattle.history.proofs.Rows as rows
@@ -23,6 +28,9 @@ module _ (k : Word-kind) (t : Table) where
   module _ (memory : List ℕ) (room : t .switches * block-size k t ≤ length memory) (s : ℕ) (below : s < t .switches) where
     pub block-long : length (block-at k t memory s) ≡ block-size k t
     block-long = rows.row-length (block-size k t) (t .switches) memory room s below
+
+    pub block-fits : Fitting t s (block-at k t memory s)
+    block-fits = record { there = below; shape = block-long }
 
     module _ (block : List ℕ) (long : length block ≡ block-size k t) where
       pub put-long : length (put-block k t memory s block) ≡ length memory
@@ -78,3 +86,14 @@ module _ (k : Word-kind) (t : Table) where
 
     pub first-block : (s : ℕ) → s < t .switches → block-at k t (first-memory k t) s ≡ opened k t s
     first-block s below = block-first (t .switches) (omega arith) s below
+
+  -- every switch starts with the same records
+  pub first-records : (s i j : ℕ) → j < t .switches → record-of (length (t .nodes)) (opened k t s) j ≡ record-of (length (t .nodes)) (opened k t i) j
+  first-records s i j below = same s ∙ sym (same i)
+    where
+      same : (s : ℕ) → record-of (length (t .nodes)) (opened k t s) j ≡ record-of (length (t .nodes)) (columns k t (t .nodes) 0 (replicate (block-size k t) 0)) j
+      same s =
+          let m = length (t .nodes) in
+          let empty : List ℕ = replicate (block-size k t) 0 in
+          let long : length (columns k t (t .nodes) 0 empty) ≡ block-size k t = columns-kept k t (t .nodes) 0 empty (omega arith) .size ∙ length-replicate (block-size k t) 0 in
+          part-below (columns k t (t .nodes) 0 empty) (start-registers t s) (records-length (t .switches) m) register-count (record-start m j) (record-length m) (row-inside j (record-length m) (t .switches) below) (omega (arith, long))
