@@ -20,7 +20,7 @@ use Rattle.step.proofs.Rows.{row-inside}
 
 -- A part before the place that is written, one after it, and the place itself
 
-part-below : (xs r : List ℕ) (at n k w : ℕ) → k + w ≤ at → at ≤ length xs → take w (drop k (paste xs at r n)) ≡ take w (drop k xs)
+pub part-below : (xs r : List ℕ) (at n k w : ℕ) → k + w ≤ at → at ≤ length xs → take w (drop k (paste xs at r n)) ≡ take w (drop k xs)
 part-below xs r at n k w below inside =
     let front : length (take at xs) ≡ at = length-take-le at xs inside in
     let more = length-append (take at xs) (take n r) in
@@ -34,14 +34,14 @@ part-below xs r at n k w below inside =
     ∙ ap (take w) (drop-take k (at - k) xs)
     ∙ take-take w (at - k) (drop k xs) (omega arith)
 
-part-above : (xs r : List ℕ) (at n k w : ℕ) → at + n ≤ k → at ≤ length xs → n ≤ length r → take w (drop k (paste xs at r n)) ≡ take w (drop k xs)
+pub part-above : (xs r : List ℕ) (at n k w : ℕ) → at + n ≤ k → at ≤ length xs → n ≤ length r → take w (drop k (paste xs at r n)) ≡ take w (drop k xs)
 part-above xs r at n k w above inside long =
     let split : at + n + (k - (at + n)) ≡ k = omega arith in
     ap (λ z. take w (drop z (paste xs at r n))) (sym split)
     ∙ ap (take w) (sym (drop-drop (k - (at + n)) (at + n) (paste xs at r n)) ∙ ap (drop (k - (at + n))) (drop-paste xs at r n inside long) ∙ drop-drop (k - (at + n)) (at + n) xs)
     ∙ ap (λ z. take w (drop z xs)) split
 
-part-same : (xs r : List ℕ) (at n : ℕ) → at ≤ length xs → n ≤ length r → take n (drop at (paste xs at r n)) ≡ take n r
+pub part-same : (xs r : List ℕ) (at n : ℕ) → at ≤ length xs → n ≤ length r → take n (drop at (paste xs at r n)) ≡ take n r
 part-same xs r at n inside long =
     ap (λ z. take n (drop at z)) (append-assoc (take at xs) (take n r) (drop (at + n) xs))
     ∙ ap (take n) (drop-at (take at xs) (take n r ++ drop (at + n) xs) at (length-take-le at xs inside))
@@ -84,13 +84,13 @@ set-record n m block g v inside s below =
 -- A takeover
 
 module _ (n m s : ℕ) (copy : List ℕ) (full : records-length n m ≤ length copy) where
-  full-record : (j : ℕ) → j < n → record-length m ≤ length (record-of m copy j)
+  pub full-record : (j : ℕ) → j < n → record-length m ≤ length (record-of m copy j)
   full-record j below =
       let inside : record-length m ≤ length (drop (record-start m j) copy) = omega (arith, length-drop (record-start m j) copy, row-inside j (record-length m) n below) in
       omega (arith, length-take-le (record-length m) (drop (record-start m j) copy) inside)
 
   -- either the block stays, or record j is put
-  one-way : (P : List ℕ → Type 0) (block : List ℕ) (j : ℕ) → P block → (eqb j s ≡ false → P (put-record m block j (record-of m copy j))) → P (taken-one m s copy block j)
+  pub one-way : (P : List ℕ → Type 0) (block : List ℕ) (j : ℕ) → P block → (eqb j s ≡ false → P (put-record m block j (record-of m copy j))) → P (taken-one m s copy block j)
   one-way P block j stays puts = ways (eqb j s) (newer (record-of m copy j) (record-of m block j)) puts
     where
       ways : (own new : Bool) → (own ≡ false → P (put-record m block j (record-of m copy j))) → P (cond (not own && new) (put-record m block j (record-of m copy j)) block)

@@ -1,0 +1,4 @@
+pub mod BlockSteps
+pub mod Carrier
+pub mod Memory
+pub mod Rows
