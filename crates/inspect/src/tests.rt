@@ -20,10 +20,14 @@ fn words_are_understood(rt: LibcRuntime) -> Result<(), Fail> {
     let heap = rt.alloc();
     match options_of(heap, "a.table", "--print")? {
         Ok(options) => {
-            check(options.print)?;
+            check(options.print && !options.opening)?;
             check(options.file.is_some())?;
         }
         Err(_) => return Err(Fail::new("two good words")),
+    }
+    match options_of(heap, "--opening", "--print")? {
+        Ok(options) => check(options.print && options.opening && options.file.is_none())?,
+        Err(_) => return Err(Fail::new("two options")),
     }
     check(matches!(options_of(heap, "a", "b")?, Err(Misuse::SecondFile(_))))?;
     check(matches!(
