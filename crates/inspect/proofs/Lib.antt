@@ -1,3 +1,4 @@
 pub mod Formulas
+pub mod Openings
 pub mod PortSteps
 pub mod Writing

@@ -1,4 +1,5 @@
 pub mod Forms
+pub mod Openings
 pub mod Reports
 pub mod Values
 pub mod Words

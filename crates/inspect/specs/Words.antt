@@ -16,7 +16,7 @@ use Rattle.inspect.specs.declared.options.Misuse.{Misuse}
 use Rattle.inspect.specs.declared.options.Misuse.the-variants.{UnknownOption, SecondFile}
 use Rattle.inspect.specs.declared.options.Options.{Options}
 use Rattle.inspect.specs.declared.options.Word.{Word}
-use Rattle.inspect.specs.declared.options.Word.the-variants.{Print, Unknown, File}
+use Rattle.inspect.specs.declared.options.Word.the-variants.{Print, Opening, Unknown, File}
 
 -- a text that begins with `-`
 abbrev pub dashed : List ℕ → Bool
@@ -24,24 +24,25 @@ dashed [] = false
 dashed (b ∷ bs) = eqb b 45
 
 abbrev pub word-of : List ℕ → Word
-word-of bs = cond (sameBytes bs (codes "--print")) Print (cond (dashed bs) Unknown File)
+word-of bs = cond (sameBytes bs (codes "--print")) Print (cond (sameBytes bs (codes "--opening")) Opening (cond (dashed bs) Unknown File))
 
 -- the file, if none is named yet
-abbrev pub named : Bool → Option (String Global) → String Global → Result Options Misuse
-named print None w = Ok (record { print = print; file = Some w })
-named print (Some v) w = Err (SecondFile w)
+abbrev pub named : Options → Option (String Global) → String Global → Result Options Misuse
+named o None w = Ok (record { print = o .print; opening = o .opening; file = Some w })
+named o (Some v) w = Err (SecondFile w)
 
 abbrev pub taken-as : Word → Options → String Global → Result Options Misuse
-taken-as Print o w = Ok (record { print = true; file = o .file })
+taken-as Print o w = Ok (record { print = true; opening = o .opening; file = o .file })
+taken-as Opening o w = Ok (record { print = o .print; opening = true; file = o .file })
 taken-as Unknown o w = Err (UnknownOption w)
-taken-as File o w = named (o .print) (o .file) w
+taken-as File o w = named o (o .file) w
 
 -- the options o with the word w
 abbrev pub taken : Options → String Global → Result Options Misuse
 taken o w = taken-as (word-of (string-bytes w)) o w
 
 abbrev pub nothing-asked : Options
-nothing-asked = record { print = false; file = None }
+nothing-asked = record { print = false; opening = false; file = None }
 
 abbrev pub and-then : {A B E : Type 0} → Result A E → (A → Result B E) → Result B E
 and-then (Ok x) f = f x

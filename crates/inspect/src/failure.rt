@@ -34,7 +34,7 @@ pub impl fmt::Display for Failure as FailureDisplay {
             Failure::Arguments(error) => write!(f, "inspect: cannot read the arguments: {error}"),
             Failure::Misuse(misuse) => write!(
                 f,
-                "inspect: {misuse}\nusage: inspect [--print] [FILE]"
+                "inspect: {misuse}\nusage: inspect [--print] [--opening] [FILE]"
             ),
             Failure::File(name, error) => write!(f, "inspect: cannot read {name}: {error}"),
             Failure::Input(error) => write!(f, "inspect: cannot read standard input: {error}"),

@@ -1,10 +1,9 @@
 // Checks a rule table and prints what it says.
 mod failure;
 mod formula;
+mod opening;
 mod options;
 mod report;
-#[cfg(test)]
-mod tests;
 mod value;
 
 use failure::Failure;
@@ -68,11 +67,15 @@ fn run(rt: &LibcRuntime) -> Result<(), Failure> {
     };
     let options = Options::parse(words)?;
     let print = options.print;
+    let opening = options.opening;
     let bytes = read_table(rt, options.file)?;
     let mut table = Checked::worked();
     match check_delivered(Draft::new(&bytes), &mut table) {
         Ok(kind) => {
-            let text = report::accepted(heap, kind, &table, print)?;
+            let mut text = report::accepted(heap, kind, &table, print)?;
+            if opening {
+                text.push_str(opening::text(heap, kind, &table)?.as_str())?;
+            }
             answer(rt, text.as_str())
         }
         Err(fault) => {

@@ -8,6 +8,7 @@ use std::fmt;
 #[derive(Clone, Copy, Debug, PartialEq)]
 pub enum Word {
     Print,
+    Opening,
     // It begins with `-` and is no option of this program.
     Unknown,
     File,
@@ -18,6 +19,8 @@ pub enum Word {
 pub struct Options {
     // Print the table too.
     pub print: bool,
+    // Print what the switches start with too.
+    pub opening: bool,
     // The file with the table; where there is none the table comes on standard input.
     pub file: Option<String>,
 }
@@ -45,6 +48,9 @@ impl Word {
         if text == "--print" {
             return Word::Print;
         }
+        if text == "--opening" {
+            return Word::Opening;
+        }
         match text.as_bytes() {
             [b'-', ..] => Word::Unknown,
             _ => Word::File,
@@ -57,13 +63,27 @@ impl Options {
     pub fn with(self, word: String) -> Result<Options, Misuse>
         ensures { λ r. ⌜ r ≡ taken self word ⌝ }
     {
-        let Options { print, file } = self;
+        let Options {
+            print,
+            opening,
+            file,
+        } = self;
         match Word::of(word.as_str()) {
-            Word::Print => Ok(Options { print: true, file }),
+            Word::Print => Ok(Options {
+                print: true,
+                opening,
+                file,
+            }),
+            Word::Opening => Ok(Options {
+                print,
+                opening: true,
+                file,
+            }),
             Word::Unknown => Err(Misuse::UnknownOption(word)),
             Word::File => match file {
                 None => Ok(Options {
                     print,
+                    opening,
                     file: Some(word),
                 }),
                 Some(_) => Err(Misuse::SecondFile(word)),
@@ -77,6 +97,7 @@ impl Options {
     {
         let mut options = Options {
             print: false,
+            opening: false,
             file: None,
         };
         for word in words {
