@@ -69,16 +69,16 @@ module _ (k : Word-kind) (t : Table) where
         let long = blocks-long i (omega arith) in
         elim (cases-eq s i) [
           | inl e ↦
-            ap (λ z. take size (drop (z * size) (first-blocks k t i ++ opened k t i))) e
-            ∙ ap (take size) (drop-at (first-blocks k t i) (opened k t i) (i * size) long)
-            ∙ take-all size (opened k t i) (omega (arith, opened-length k t is-sound i (omega arith)))
-            ∙ ap (opened k t) (sym e)
+              ap (λ z. take size (drop (z * size) (first-blocks k t i ++ opened k t i))) e
+              ∙ ap (take size) (drop-at (first-blocks k t i) (opened k t i) (i * size) long)
+              ∙ take-all size (opened k t i) (omega (arith, opened-length k t is-sound i (omega arith)))
+              ∙ ap (opened k t) (sym e)
           | inr ne ↦
-            let less : s < i = omega arith in
-            let inside = row-inside s size i less in
-            ap (take size) (drop-append-le (s * size) (first-blocks k t i) (opened k t i) (omega (arith, long)))
-            ∙ take-append-le size (drop (s * size) (first-blocks k t i)) (opened k t i) (omega (arith, long, length-drop (s * size) (first-blocks k t i)))
-            ∙ block-first i (omega arith) s less
+              let less : s < i = omega arith in
+              let inside = row-inside s size i less in
+              ap (take size) (drop-append-le (s * size) (first-blocks k t i) (opened k t i) (omega (arith, long)))
+              ∙ take-append-le size (drop (s * size) (first-blocks k t i)) (opened k t i) (omega (arith, long, length-drop (s * size) (first-blocks k t i)))
+              ∙ block-first i (omega arith) s less
         ]
 
     pub first-long : length (first-memory k t) ≡ t .switches * block-size k t
