@@ -55,6 +55,7 @@ PROGRAM
 front_end() {
     "$kit/bin/rattle-print-mir" "$work/main.rt" --crate-name holder \
         --lib readings=crates/readings/src/lib.rt --lib table=crates/table/src/lib.rt \
+        --lib step=crates/step/src/lib.rt --lib carriers=crates/carriers/src/lib.rt \
         --extern "std=$kit/rlib/std.rlib" -L "dependency=$kit/rlib" >"$work/mir" 2>"$work/messages"
 }
 
@@ -70,10 +71,10 @@ report() {
     head -c 2000 "$work/messages" >&2
 }
 
-accepted() { # LABEL
+accepted() { # LABEL FUNCTION
     printf '%s\n' "$program" >"$work/main.rt"
     : >"$work/messages"
-    if front_end && grep -q 'holder::check_and_clear' "$work/mir"; then
+    if front_end && grep -q "holder::$2" "$work/mir"; then
         report accepted "$1"
     else
         report wrong "$1 is not accepted"
@@ -101,7 +102,7 @@ refused() {
     fi
 }
 
-accepted "a program that uses a checked table and then writes to the bytes"
+accepted "a program that uses a checked table and then writes to the bytes" check_and_clear
 refused "a draft where a checked table is wanted" mismatched-types \
     'switches(&place)' 'switches(&Draft::new(bytes))'
 refused "a write to the bytes of a checked table that is still to be used" borrow-e0506 \
@@ -114,6 +115,30 @@ refused "a draft that check has taken, used again" borrow-e0382 \
     'let count = switches(&place);' 'check::<Number>(draft, &mut place)?; let count = switches(&place);'
 refused "a write to a checked table itself" private-field \
     'let count = switches(&place);' 'place.switches = 17; let count = switches(&place);'
+
+# Fetches a copy from a pool that it may only look at.
+program=$(cat <<'PROGRAM'
+use carriers::carrier::Carrier;
+use carriers::frame_pool::FrameCarrier;
+use carriers::frame_pool::FramePool;
+use table::fault::Fault;
+
+fn copy(pool: &FramePool, hand: &mut [u32]) -> Result<(), Fault> {
+    pool.fetch(0, hand)
+}
+
+fn main() {
+    let mut memory = [0u8; 176];
+    let mut hand = [0u32; 16];
+    let pool = FramePool::open(1, 3, 4, &mut memory);
+    let _ = copy(&pool, &mut hand);
+}
+PROGRAM
+)
+
+accepted "a program that fetches from a pool that it may only look at" copy
+refused "a fetch that alters the pool" write-to-immutable \
+    'pool.fetch(0, hand)' 'pool.retire(0)'
 
 echo "build refusals: $checks checks, $faults faults"
 [ "$faults" = 0 ]

@@ -16,3 +16,5 @@ pub struct FramePool<'a> {
 }
 
 mod calls;
+
+pub use calls::FrameCarrier;

@@ -16,3 +16,5 @@ pub struct WordPool<'a> {
 }
 
 mod calls;
+
+pub use calls::WordCarrier;
