@@ -57,9 +57,9 @@ fn used<P: Places>(places: &P) -> usize
     requires { ⌜ P·Places .fitting (now places) ⌝ }
     ensures { λ r. ⌜ r ≡ used-below (P·Places .flags (now (places .entry))) (P·Places .outline (now (places .entry)) .capacity) ⌝ }
 {
-    let capacity = places.shape().capacity;
+    let end = places.shape().capacity;
     let mut count = 0;
-    for place in 0..capacity {
+    for place in 0..end {
         if places.flag(place) != 0 {
             count += 1;
         }
