@@ -33,7 +33,13 @@ for edit in "$@"; do
         echo "$name: its text does not stand in $file"
         passed=$((passed + 1))
     elif refused; then
-        echo "$name: refused ($(grep -oE '(src|proofs)/[A-Za-z0-9_/+.]*\.(rt|antt):[0-9]+' "$work/log" | head -n 1))"
+        where=$(grep -E 'error|is not proved' "$work/log" | grep -oE '(src|proofs)/[A-Za-z0-9_/+.]*\.(rt|antt):[0-9]+' | head -n 1 || true)
+        if grep -q 'error\[' "$work/log"; then
+            echo "$name: BAD EDIT, a compiler's error ($where)"
+            passed=$((passed + 1))
+        else
+            echo "$name: refused ($where)"
+        fi
     else
         echo "$name: PASSED"
         passed=$((passed + 1))
