@@ -1,4 +1,6 @@
 // Carriers: what keeps copies by number, and the pools that do.
+#![tactic(auto)]
+
 pub mod carrier;
 pub mod copy;
 pub mod firmware;

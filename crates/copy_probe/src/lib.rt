@@ -1,4 +1,6 @@
 // The copy codec for programs in C that test or measure it beside another; no part of what firmware links.
+#![tactic(auto)]
+
 ghost use Rattle.carriers.specs.Copies.{copy_bytes, hand_in};
 ghost use Rattle.carriers.specs.CopyCalls.{after, read_answer, write_answer};
 ghost use Rattle.copy_probe.specs.Outcome.{reason_number};

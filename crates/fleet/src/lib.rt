@@ -1,4 +1,6 @@
 // The fleet: every switch's block in one memory, and a carrier for the copies that they send.
+#![tactic(auto)]
+
 mod blocks;
 pub mod call;
 pub mod fit;

@@ -1,4 +1,6 @@
 // Checks a rule table and prints what it says.
+#![tactic(auto)]
+
 mod failure;
 mod formula;
 mod opening;

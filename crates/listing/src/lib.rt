@@ -1,4 +1,6 @@
 // A rehearsal: the calls of its file, its run, and the text of its listing.
+#![tactic(auto)]
+
 pub mod events;
 pub mod knowledge;
 pub mod output;

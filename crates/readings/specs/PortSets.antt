@@ -4,7 +4,7 @@ use Rattle.std.proofs.Common.{pow-suc, not-suc-le-zero, arith, inl, inr, sym, �
 use Rattle.std.proofs.lemmas.Nat.{and_comm, and_mod, and_shr, or_lt, or_mod, or_shr}
 use Rattle.std.specs.Int.Bits.{and_lt}
 use Rattle.std.specs.Bool.{beq}
-use Rattle.std.proofs.Math.Logic.{Iff·trans}
+use Rattle.std.proofs.Math.Logic.Iff as Iff
 use Rattle.std.proofs.Math.Path.{ap}
 use Rattle.std.proofs.lemmas.Bool.{and_from, and_parts, both_ways, cases_eq, eq-eqb, eqb-true, or_cases, or_left, or_right}
 use Rattle.readings.specs.Ports.{port_count, has, collect, all_below, held_ports, word_ports, union, without, subset, same_ports, PortsAreSets}
@@ -208,8 +208,8 @@ pub ports_are_sets : PortsAreSets
 ports_are_sets a b ha hb =
     let in_a : ℕ → Bool = has a.bits in
     let in_b : ℕ → Bool = has b.bits in (
-      λ p h. Iff·trans (same_iff (has_collect port_count (λ p. in_a p || in_b p) p h)) (either (in_a p) (in_b p)),
-      λ p h. Iff·trans (same_iff (has_collect port_count (λ p. in_a p && not (in_b p)) p h)) (differs (in_a p) (in_b p)),
+      λ p h. Iff.trans (same_iff (has_collect port_count (λ p. in_a p || in_b p) p h)) (either (in_a p) (in_b p)),
+      λ p h. Iff.trans (same_iff (has_collect port_count (λ p. in_a p && not (in_b p)) p h)) (differs (in_a p) (in_b p)),
       all_implied port_count a.bits b.bits,
       all_equal port_count a.bits b.bits ha hb,
     )

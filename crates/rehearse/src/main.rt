@@ -1,4 +1,6 @@
 // Runs a rehearsal file and prints its listing.
+#![tactic(auto)]
+
 mod failure;
 mod options;
 

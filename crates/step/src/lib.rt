@@ -1,4 +1,6 @@
 // One switch's step: what it does with one event, over the words of its block.
+#![tactic(auto)]
+
 pub(crate) mod advance;
 pub mod open;
 mod records;

@@ -1,4 +1,6 @@
 // The rule table: its bytes, its check, and what a checked table says.
+#![tactic(auto)]
+
 pub mod fault;
 pub mod firmware;
 pub mod kind;
