@@ -36,7 +36,7 @@ fn start(table: &Checked, switch: usize, memory: &[u32]) -> usize
 // Fills the block of `switch` with what it starts with.
 pub(crate) fn open_block<K: Reading>(table: &Checked, switch: usize, memory: &mut [u32])
     requires { Inside (view table.now) switch memory.old }
-    ensures { memory.new ≡ put_block (word_kind word reading joined less inside equal) (view table.now) memory.old switch (opened (word_kind word reading joined less inside equal) (view table.now) switch) }
+    ensures { memory.new ≡ put_block (word_kind K.word K.reading K.joined K.less K.inside K.equal) (view table.now) memory.old switch (opened (word_kind K.word K.reading K.joined K.less K.inside K.equal) (view table.now) switch) }
 {
     let size = block_length(table);
     let at = start(table, switch, memory);
@@ -46,7 +46,7 @@ pub(crate) fn open_block<K: Reading>(table: &Checked, switch: usize, memory: &mu
 // Fills every block with what its switch starts with.
 pub(crate) fn open_blocks<K: Reading>(table: &Checked, memory: &mut [u32])
     requires { length memory.old ≡ (view table.now).switches * block_length (view table.now).switches (length (view table.now).nodes) }
-    ensures { memory.new ≡ first_memory (word_kind word reading joined less inside equal) (view table.now) }
+    ensures { memory.new ≡ first_memory (word_kind K.word K.reading K.joined K.less K.inside K.equal) (view table.now) }
 {
     for switch in 0..table.switches() {
         open_block::<K>(table, switch, memory);
@@ -61,8 +61,8 @@ pub(crate) fn step_block<K: Reading>(
     memory: &mut [u32],
 ) -> Outcome
     requires { Able (view table.now) switch (act_of event) memory.old }
-    ensures memory { memory.new ≡ stepped_in (view table.now) (word_kind word reading joined less inside equal) memory.old switch (act_of event.entry) }
-    ensures outcome { result ≡ outcome (word_kind word reading joined less inside equal) (view table.now) switch (act_of event.entry) (block_in (view table.now) memory.old switch) }
+    ensures memory { memory.new ≡ stepped_in (view table.now) (word_kind K.word K.reading K.joined K.less K.inside K.equal) memory.old switch (act_of event.entry) }
+    ensures outcome { result ≡ outcome (word_kind K.word K.reading K.joined K.less K.inside K.equal) (view table.now) switch (act_of event.entry) (block_in (view table.now) memory.old switch) }
 {
     let size = block_length(table);
     let at = start(table, switch, memory);
@@ -105,9 +105,9 @@ pub(crate) fn send_block<K: Reading>(
     hand: &mut [u32],
 ) -> Outcome
     requires { (Able (view table.now) switch send memory.old) × (length hand.old ≡ hand_length (view table.now).switches (length (view table.now).nodes)) }
-    ensures memory { memory.new ≡ stepped_in (view table.now) (word_kind word reading joined less inside equal) memory.old switch send }
+    ensures memory { memory.new ≡ stepped_in (view table.now) (word_kind K.word K.reading K.joined K.less K.inside K.equal) memory.old switch send }
     ensures hand { hand.new ≡ copy_in (view table.now) memory.new switch }
-    ensures outcome { result ≡ outcome (word_kind word reading joined less inside equal) (view table.now) switch send (block_in (view table.now) memory.old switch) }
+    ensures outcome { result ≡ outcome (word_kind K.word K.reading K.joined K.less K.inside K.equal) (view table.now) switch send (block_in (view table.now) memory.old switch) }
 {
     let outcome = step_block::<K>(table, switch as usize, send_event(), memory);
     copy_block(table, switch, memory, hand);

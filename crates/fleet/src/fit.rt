@@ -16,7 +16,7 @@ pub(crate) fn fits<K: Reading, C: Carrier>(
     hand: &[u32],
     carrier: &C,
 ) -> bool
-    ensures value { C.Carrier.sound carrier.now → result ≡ fits K.Reading.code (view table.now) (state memory.now hand.now (C.Carrier.meaning carrier.now)) }
+    ensures value { C.sound carrier.now → result ≡ fits K.code (view table.now) (state memory.now hand.now (C.meaning carrier.now)) }
     ensures lengths { result ≡ true → Sized (view table.now) memory.now hand.now }
 {
     let figures = carrier.figures();
@@ -30,7 +30,7 @@ pub fn fit<K: Reading, C: Carrier>(
     hand: &[u32],
     carrier: &C,
 ) -> u32
-    ensures { C.Carrier.sound carrier.now → result ≡ fit_answer K.Reading.code (view table.now) (state memory.now hand.now (C.Carrier.meaning carrier.now)) }
+    ensures { C.sound carrier.now → result ≡ fit_answer K.code (view table.now) (state memory.now hand.now (C.meaning carrier.now)) }
 {
     if fits::<K, C>(table, memory, hand, carrier) {
         0

@@ -34,7 +34,7 @@ pub(crate) fn shaped<K: Reading>(
     hand: &[u32],
     figures: Figures,
 ) -> bool
-    ensures value { result ≡ shaped_by code (view table.now) (length memory.now) (length hand.now) figures }
+    ensures value { result ≡ shaped_by K.code (view table.now) (length memory.now) (length hand.now) figures }
     ensures lengths { result ≡ true → Sized (view table.now) memory.now hand.now }
 {
     K::native(table.code()) && sized(table, memory, hand) && carries(table, figures)

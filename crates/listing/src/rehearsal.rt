@@ -63,7 +63,7 @@ fn look_entry<K: Reading, C: Carrier>(
     i: u32,
     old: Known,
 ) -> Known
-    ensures { C.Carrier.sound fleet.now.carrier → result ≡ look_entry fleet.now.live K.Reading.code (view table.now) (state memory.now hand.now (C.Carrier.meaning fleet.now.carrier)) i old }
+    ensures { C.sound fleet.now.carrier → result ≡ look_entry fleet.now.live K.code (view table.now) (state memory.now hand.now (C.meaning fleet.now.carrier)) i old }
 {
     let switches = table.switches() as u32;
     let nodes = table.nodes().len() as u32;
@@ -84,7 +84,7 @@ fn look_all<K: Reading, C: Carrier>(
     known: &mut [Known],
 )
     requires { length known.old ≤ most_entries }
-    ensures { C.Carrier.sound fleet.now.carrier → known.new ≡ looks_from fleet.now.live K.Reading.code (view table.now) (state memory.now hand.now (C.Carrier.meaning fleet.now.carrier)) 0 known.old }
+    ensures { C.sound fleet.now.carrier → known.new ≡ looks_from fleet.now.live K.code (view table.now) (state memory.now hand.now (C.meaning fleet.now.carrier)) 0 known.old }
 {
     for i in 0..known.len() {
         known[i] = look_entry(fleet, table, memory, hand, i as u32, known[i]);
@@ -102,8 +102,8 @@ fn run_on<K: Reading, C: Carrier + Drop>(
     known: &mut [Known],
 ) -> Result<(), Fault>
     requires { length known.old ≤ most_entries }
-    ensures run { C.Carrier.sound carrier → Rehearses K.Reading.code (word_kind K.Reading.word K.Reading.reading K.Reading.joined K.Reading.less K.Reading.inside K.Reading.equal) (view table.now) (state memory.old hand.old (C.Carrier.meaning carrier)) (listed calls.now) replies.old replies.new known.old known.new result }
-    ensures law { OnOk result (C.Carrier.sound carrier → RunLaw K.Reading.code (kind_of K.Reading.word K.Reading.reading K.Reading.joined K.Reading.less K.Reading.inside K.Reading.equal) (view table.now) (state memory.old hand.old (C.Carrier.meaning carrier)) (listed calls.now) replies.new) }
+    ensures run { C.sound carrier → Rehearses K.code (word_kind K.word K.reading K.joined K.less K.inside K.equal) (view table.now) (state memory.old hand.old (C.meaning carrier)) (listed calls.now) replies.old replies.new known.old known.new result }
+    ensures law { OnOk result (C.sound carrier → RunLaw K.code (kind_of K.word K.reading K.joined K.less K.inside K.equal) (view table.now) (state memory.old hand.old (C.meaning carrier)) (listed calls.now) replies.new) }
 {
     let mut fleet: Fleet<K, C> = Fleet::open(table, memory, hand, carrier);
     let ran = fleet.run(table, memory, hand, calls, replies);
@@ -123,8 +123,8 @@ fn run_in<K: Reading>(
     known: &mut [Known],
 ) -> Result<(), Fault>
     requires { length known.old ≤ most_entries }
-    ensures run { Rehearses code (word_kind word reading joined less inside equal) (view table.now) (state memory.old hand.old (opened (view table.now).code (view table.now).switches (length (view table.now).nodes) (frame_capacity (view table.now).switches (length (view table.now).nodes) (length frames.old)))) (listed calls.now) replies.old replies.new known.old known.new result }
-    ensures law { OnOk result (RunLaw code (kind_of word reading joined less inside equal) (view table.now) (state memory.old hand.old (opened (view table.now).code (view table.now).switches (length (view table.now).nodes) (frame_capacity (view table.now).switches (length (view table.now).nodes) (length frames.old)))) (listed calls.now) replies.new) }
+    ensures run { Rehearses K.code (word_kind K.word K.reading K.joined K.less K.inside K.equal) (view table.now) (state memory.old hand.old (opened (view table.now).code (view table.now).switches (length (view table.now).nodes) (frame_capacity (view table.now).switches (length (view table.now).nodes) (length frames.old)))) (listed calls.now) replies.old replies.new known.old known.new result }
+    ensures law { OnOk result (RunLaw K.code (kind_of K.word K.reading K.joined K.less K.inside K.equal) (view table.now) (state memory.old hand.old (opened (view table.now).code (view table.now).switches (length (view table.now).nodes) (frame_capacity (view table.now).switches (length (view table.now).nodes) (length frames.old)))) (listed calls.now) replies.new) }
 {
     let switches = table.switches() as u32;
     let nodes = table.nodes().len() as u32;
@@ -168,9 +168,9 @@ pub fn rehearse<K: Reading>(
     calls: &[Call],
     knows: bool,
 ) -> Result<Rehearsed, Stop>
-    ensures replies { Gives (λ v. v.replies.items) result (rehearsal code (word_kind word reading joined less inside equal) (view table.now) calls.now) }
-    ensures known { IfOk result (λ v. v.known.items ≡ known_after code (word_kind word reading joined less inside equal) (view table.now) calls.now knows) }
-    ensures law { IfOk result (λ v. RehearsalLaw (kind_of word reading joined less inside equal) (view table.now) calls.now v.replies.items) }
+    ensures replies { Gives (λ v. v.replies.items) result (rehearsal code (word_kind K.word K.reading K.joined K.less K.inside K.equal) (view table.now) calls.now) }
+    ensures known { IfOk result (λ v. v.known.items ≡ known_after K.code (word_kind K.word K.reading K.joined K.less K.inside K.equal) (view table.now) calls.now knows) }
+    ensures law { IfOk result (λ v. RehearsalLaw (kind_of K.word K.reading K.joined K.less K.inside K.equal) (view table.now) calls.now v.replies.items) }
 {
     let unanswered = Ok(Reply {
         count: 0,

@@ -24,9 +24,9 @@ pub struct Outcome {
 // Works out the own words into the front of `words`, and answers the broken mask.
 fn work_out<K: Reading>(table: &Checked, switch: usize, block: &[u32], words: &mut [u32]) -> u32
     requires { (Fitting (view table.now) switch block.now) × (length words.old ≡ length (view table.now).nodes) }
-    ensures words { words.new ≡ own_words (word_kind word reading joined less inside equal) (view table.now) switch block.now }
-    ensures mask { result ≡ own_mask (word_kind word reading joined less inside equal) (view table.now) switch block.now }
-    ensures law { StepLaw (kind_of word reading joined less inside equal) (view table.now) switch block.now result }
+    ensures words { words.new ≡ own_words (word_kind K.word K.reading K.joined K.less K.inside K.equal) (view table.now) switch block.now }
+    ensures mask { result ≡ own_mask (word_kind K.word K.reading K.joined K.less K.inside K.equal) (view table.now) switch block.now }
+    ensures law { StepLaw (kind_of K.word K.reading K.joined K.less K.inside K.equal) (view table.now) switch block.now result }
 {
     let nodes = table.nodes();
     let place = Place {
@@ -47,10 +47,10 @@ fn advance_in<K: Reading>(
     words: &mut [u32],
 ) -> Outcome
     requires { (Fitting (view table.now) switch block.old) × ((own_count (length (view table.now).nodes) switch block.old < max_count) × (length words.old ≡ length (view table.now).nodes)) }
-    ensures block { block.new ≡ advanced (word_kind word reading joined less inside equal) (view table.now) switch block.old }
+    ensures block { block.new ≡ advanced (word_kind K.word K.reading K.joined K.less K.inside K.equal) (view table.now) switch block.old }
     ensures count { result.count ≡ own_count (length (view table.now).nodes) switch block.old + 1 }
-    ensures broken { result.broken ≡ own_mask (word_kind word reading joined less inside equal) (view table.now) switch block.old }
-    ensures law { StepLaw (kind_of word reading joined less inside equal) (view table.now) switch block.old result.broken }
+    ensures broken { result.broken ≡ own_mask (word_kind K.word K.reading K.joined K.less K.inside K.equal) (view table.now) switch block.old }
+    ensures law { StepLaw (kind_of K.word K.reading K.joined K.less K.inside K.equal) (view table.now) switch block.old result.broken }
 {
     let nodes = table.nodes().len();
     let switches = table.switches();
@@ -66,10 +66,10 @@ fn advance_in<K: Reading>(
 // Makes the next state of `switch` from its block.
 pub(crate) fn advance<K: Reading>(table: &Checked, switch: usize, block: &mut [u32]) -> Outcome
     requires { (Fitting (view table.now) switch block.old) × (own_count (length (view table.now).nodes) switch block.old < max_count) }
-    ensures block { block.new ≡ advanced (word_kind word reading joined less inside equal) (view table.now) switch block.old }
+    ensures block { block.new ≡ advanced (word_kind K.word K.reading K.joined K.less K.inside K.equal) (view table.now) switch block.old }
     ensures count { result.count ≡ own_count (length (view table.now).nodes) switch block.old + 1 }
-    ensures broken { result.broken ≡ own_mask (word_kind word reading joined less inside equal) (view table.now) switch block.old }
-    ensures law { StepLaw (kind_of word reading joined less inside equal) (view table.now) switch block.old result.broken }
+    ensures broken { result.broken ≡ own_mask (word_kind K.word K.reading K.joined K.less K.inside K.equal) (view table.now) switch block.old }
+    ensures law { StepLaw (kind_of K.word K.reading K.joined K.less K.inside K.equal) (view table.now) switch block.old result.broken }
 {
     let nodes = table.nodes().len();
     let mut words = [0; 48];

@@ -42,7 +42,7 @@ fn first_word<'a, K: Reading>(
     node: Node,
 ) -> u32
     requires { (Placed place block.now registers.now) × ((i < place.nodes) × ((place.nodes ≤ max_nodes) × (names_below place.switches i node ≡ true))) }
-    ensures { result ≡ first_word (word_kind word reading joined less inside equal) place.nodes registers.now block.now i place.switch node }
+    ensures { result ≡ first_word (word_kind K.word K.reading K.joined K.less K.inside K.equal) place.nodes registers.now block.now i place.switch node }
 {
     let at = start(place.switch, place.nodes + 1, place.switches) + 1;
     let words = &block[at..at + i];
@@ -60,7 +60,7 @@ fn first_word<'a, K: Reading>(
 // Works out node `i` at one switch.
 fn open_one<K: Reading>(table: &Checked, switch: usize, i: usize, node: Node, block: &mut [u32])
     requires { (Fitting (view table.now) switch block.old) × ((i < length (view table.now).nodes) × (names_below (view table.now).switches i node ≡ true)) }
-    ensures { block.new ≡ opened_one (word_kind word reading joined less inside equal) (view table.now) node i block.old switch }
+    ensures { block.new ≡ opened_one (word_kind K.word K.reading K.joined K.less K.inside K.equal) (view table.now) node i block.old switch }
 {
     let place = Place {
         switch,
@@ -76,7 +76,7 @@ fn open_one<K: Reading>(table: &Checked, switch: usize, i: usize, node: Node, bl
 // Works out node `i` at every switch.
 fn open_column<K: Reading>(table: &Checked, i: usize, node: Node, block: &mut [u32])
     requires { (length block.old ≡ block_length (view table.now).switches (length (view table.now).nodes)) × ((i < length (view table.now).nodes) × (names_below (view table.now).switches i node ≡ true)) }
-    ensures { block.new ≡ column (word_kind word reading joined less inside equal) (view table.now) node i block.old (view table.now).switches }
+    ensures { block.new ≡ column (word_kind K.word K.reading K.joined K.less K.inside K.equal) (view table.now) node i block.old (view table.now).switches }
 {
     for j in 0..table.switches() {
         open_one::<K>(table, j, i, node, block);
@@ -86,7 +86,7 @@ fn open_column<K: Reading>(table: &Checked, i: usize, node: Node, block: &mut [u
 // Works out every node, from node 0 upward.
 fn open_nodes<K: Reading>(table: &Checked, block: &mut [u32])
     requires { length block.old ≡ block_length (view table.now).switches (length (view table.now).nodes) }
-    ensures { block.new ≡ columns (word_kind word reading joined less inside equal) (view table.now) (view table.now).nodes 0 block.old }
+    ensures { block.new ≡ columns (word_kind K.word K.reading K.joined K.less K.inside K.equal) (view table.now) (view table.now).nodes 0 block.old }
 {
     let nodes = table.nodes();
     for i in 0..nodes.len() {
@@ -112,8 +112,8 @@ fn put_registers(block: &mut [u32], at: usize, words: &[u32])
 // Fills the block with what `switch` starts with.
 fn fill_block<K: Reading>(table: &Checked, switch: usize, block: &mut [u32])
     requires { Fitting (view table.now) switch block.old }
-    ensures value { block.new ≡ opened (word_kind word reading joined less inside equal) (view table.now) switch }
-    ensures law { OpeningLaw (kind_of word reading joined less inside equal) (view table.now) switch }
+    ensures value { block.new ≡ opened (word_kind K.word K.reading K.joined K.less K.inside K.equal) (view table.now) switch }
+    ensures law { OpeningLaw (kind_of K.word K.reading K.joined K.less K.inside K.equal) (view table.now) switch }
 {
     let at = block.len() - REGISTERS;
     clear(block);
@@ -140,8 +140,8 @@ fn refusal(table: &Checked, switch: usize, block: &[u32]) -> Option<Reason>
 // Fills the block with what `switch` starts with, or refuses and leaves it.
 pub fn open<K: Reading>(table: &Checked, switch: usize, block: &mut [u32]) -> Result<(), Fault>
     ensures answer { result ≡ open_answer (view table.now) switch block.old }
-    ensures block { block.new ≡ open_block (word_kind word reading joined less inside equal) (view table.now) switch block.old }
-    ensures law { OnOk result (OpeningLaw (kind_of word reading joined less inside equal) (view table.now) switch) }
+    ensures block { block.new ≡ open_block (word_kind K.word K.reading K.joined K.less K.inside K.equal) (view table.now) switch block.old }
+    ensures law { OnOk result (OpeningLaw (kind_of K.word K.reading K.joined K.less K.inside K.equal) (view table.now) switch) }
 {
     if let Some(reason) = refusal(table, switch, block) {
         return Err(Fault { reason, place: 0 });

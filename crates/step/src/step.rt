@@ -96,9 +96,9 @@ pub fn step<K: Reading>(
     event: Event,
     block: &mut [u32],
 ) -> Result<Outcome, Fault>
-    ensures answer { result ≡ step_answer (word_kind word reading joined less inside equal) (view table.now) switch (act_of event.entry) block.old }
-    ensures block { block.new ≡ step_block (word_kind word reading joined less inside equal) (view table.now) switch (act_of event.entry) block.old }
-    ensures law { IfOk result (λ o. StepLaw (kind_of word reading joined less inside equal) (view table.now) switch (acted_block (view table.now) switch (act_of event.entry) block.old) o.broken) }
+    ensures answer { result ≡ step_answer (word_kind K.word K.reading K.joined K.less K.inside K.equal) (view table.now) switch (act_of event.entry) block.old }
+    ensures block { block.new ≡ step_block (word_kind K.word K.reading K.joined K.less K.inside K.equal) (view table.now) switch (act_of event.entry) block.old }
+    ensures law { IfOk result (λ o. StepLaw (kind_of K.word K.reading K.joined K.less K.inside K.equal) (view table.now) switch (acted_block (view table.now) switch (act_of event.entry) block.old) o.broken) }
 {
     if let Some(reason) = refusal(table, switch, event, block) {
         return Err(Fault { reason, place: 0 });

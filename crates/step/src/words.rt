@@ -27,7 +27,7 @@ fn own_word<'a, K: Reading>(
     node: Node,
 ) -> u32
     requires { (Placed place block.now registers.now) × ((length words.now < place.nodes) × (names_below place.switches (length words.now) node ≡ true)) }
-    ensures { result ≡ own_word (word_kind word reading joined less inside equal) place.nodes place.switch block.now registers.now words.now node }
+    ensures { result ≡ own_word (word_kind K.word K.reading K.joined K.less K.inside K.equal) place.nodes place.switch block.now registers.now words.now node }
 {
     let sight = Sight::new(
         place.switch,
@@ -49,7 +49,7 @@ pub(crate) fn own_words<K: Reading>(
     words: &mut [u32],
 )
     requires { (Placed place block.now registers.now) × ((length nodes.now ≡ place.nodes) × ((length words.old ≡ place.nodes) × (all_named place.switches 0 nodes.now ≡ true))) }
-    ensures { words.new ≡ new_words (word_kind word reading joined less inside equal) place.nodes place.switch block.now registers.now nodes.now [] }
+    ensures { words.new ≡ new_words (word_kind K.word K.reading K.joined K.less K.inside K.equal) place.nodes place.switch block.now registers.now nodes.now [] }
 {
     for i in 0..nodes.len() {
         words[i] = own_word::<K>(place, block, registers, &words[0..i], nodes[i]);

@@ -25,7 +25,7 @@ impl<'a, K: Reading, C: Carrier> Fleet<'a, K, C> {
         register: u32,
         word: u32,
     ) -> Result<Reply, Fault>
-        ensures { C.Carrier.sound self.old.carrier → Called K.Reading.code (word_kind K.Reading.word K.Reading.reading K.Reading.joined K.Reading.less K.Reading.inside K.Reading.equal) (view table.now) self.old.live (state memory.old hand.now (C.Carrier.meaning self.old.carrier)) self.new.live (state memory.new hand.now (C.Carrier.meaning self.new.carrier)) (set_call switch register word) result (C.Carrier.sound self.new.carrier) }
+        ensures { C.sound self.old.carrier → Called K.code (word_kind K.word K.reading K.joined K.less K.inside K.equal) (view table.now) self.old.live (state memory.old hand.now (C.meaning self.old.carrier)) self.new.live (state memory.new hand.now (C.meaning self.new.carrier)) (set_call switch register word) result (C.sound self.new.carrier) }
     {
         let call = Call::Set {
             switch,
@@ -48,7 +48,7 @@ impl<'a, K: Reading, C: Carrier> Fleet<'a, K, C> {
         hand: &mut [u32],
         switch: u32,
     ) -> Result<Reply, Fault>
-        ensures { C.Carrier.sound self.old.carrier → Called K.Reading.code (word_kind K.Reading.word K.Reading.reading K.Reading.joined K.Reading.less K.Reading.inside K.Reading.equal) (view table.now) self.old.live (state memory.old hand.old (C.Carrier.meaning self.old.carrier)) self.new.live (state memory.new hand.new (C.Carrier.meaning self.new.carrier)) (send_call switch) result (C.Carrier.sound self.new.carrier) }
+        ensures { C.sound self.old.carrier → Called K.code (word_kind K.word K.reading K.joined K.less K.inside K.equal) (view table.now) self.old.live (state memory.old hand.old (C.meaning self.old.carrier)) self.new.live (state memory.new hand.new (C.meaning self.new.carrier)) (send_call switch) result (C.sound self.new.carrier) }
     {
         if let Some(reason) = self.refusal(table, memory, hand, Call::Send { switch }) {
             return Err(Fault { reason, place: 0 });
@@ -67,7 +67,7 @@ impl<'a, K: Reading, C: Carrier> Fleet<'a, K, C> {
         switch: u32,
         number: u32,
     ) -> Result<Reply, Fault>
-        ensures { C.Carrier.sound self.old.carrier → Called K.Reading.code (word_kind K.Reading.word K.Reading.reading K.Reading.joined K.Reading.less K.Reading.inside K.Reading.equal) (view table.now) self.old.live (state memory.old hand.old (C.Carrier.meaning self.old.carrier)) self.new.live (state memory.new hand.new (C.Carrier.meaning self.new.carrier)) (receive_call switch number) result (C.Carrier.sound self.new.carrier) }
+        ensures { C.sound self.old.carrier → Called K.code (word_kind K.word K.reading K.joined K.less K.inside K.equal) (view table.now) self.old.live (state memory.old hand.old (C.meaning self.old.carrier)) self.new.live (state memory.new hand.new (C.meaning self.new.carrier)) (receive_call switch number) result (C.sound self.new.carrier) }
     {
         let call = Call::Receive { switch, number };
         if let Some(reason) = self.refusal(table, memory, hand, call) {

@@ -37,7 +37,7 @@ impl<'a, K: Reading, C: Carrier> Fleet<'a, K, C> {
         of: u32,
         node: u32,
     ) -> Result<Known, Fault>
-        ensures { C.Carrier.sound self.now.carrier → result ≡ look_answer self.now.live K.Reading.code (view table.now) (state memory.now hand.now (C.Carrier.meaning self.now.carrier)) switch of node }
+        ensures { C.sound self.now.carrier → result ≡ look_answer self.now.live K.code (view table.now) (state memory.now hand.now (C.meaning self.now.carrier)) switch of node }
     {
         if let Some(reason) = self.unready(table, memory, hand) {
             return Err(Fault { reason, place: 0 });

@@ -22,7 +22,7 @@ impl<'a, K: Reading, C: Carrier> Fleet<'a, K, C> {
         carrier: C,
     ) -> Fleet<'a, K, C>
         ensures carrier { result.carrier ≡ carrier }
-        ensures fleet { C.Carrier.sound carrier → Opened K.Reading.code (word_kind K.Reading.word K.Reading.reading K.Reading.joined K.Reading.less K.Reading.inside K.Reading.equal) (view table.now) (state memory.old hand.now (C.Carrier.meaning carrier)) memory.new result.live }
+        ensures fleet { C.sound carrier → Opened K.code (word_kind K.word K.reading K.joined K.less K.inside K.equal) (view table.now) (state memory.old hand.now (C.meaning carrier)) memory.new result.live }
     {
         let live = fits::<K, C>(table, memory, hand, &carrier);
         if live {

@@ -17,7 +17,7 @@ use table::table::Checked;
 impl<'a, K: Reading, C: Carrier> Fleet<'a, K, C> {
     // Why no call can be made, if none can: the fleet is shut, or something has the wrong shape.
     pub(crate) fn unready(&self, table: &Checked, memory: &[u32], hand: &[u32]) -> Option<Reason>
-        ensures value { C.Carrier.sound self.now.carrier → result ≡ unready_by self.now.live K.Reading.code (view table.now) (state memory.now hand.now (C.Carrier.meaning self.now.carrier)) }
+        ensures value { C.sound self.now.carrier → result ≡ unready_by self.now.live K.code (view table.now) (state memory.now hand.now (C.meaning self.now.carrier)) }
         ensures lengths { IfNone result (Sized (view table.now) memory.now hand.now) }
     {
         if !self.live {
@@ -37,7 +37,7 @@ impl<'a, K: Reading, C: Carrier> Fleet<'a, K, C> {
         hand: &[u32],
         call: Call,
     ) -> Option<Reason>
-        ensures value { C.Carrier.sound self.now.carrier → result ≡ or_else (unready_by self.now.live K.Reading.code (view table.now) (state memory.now hand.now (C.Carrier.meaning self.now.carrier))) (early (view table.now) memory.now (figures_of (C.Carrier.meaning self.now.carrier)) (call_of call)) }
+        ensures value { C.sound self.now.carrier → result ≡ or_else (unready_by self.now.live K.code (view table.now) (state memory.now hand.now (C.meaning self.now.carrier))) (early (view table.now) memory.now (figures_of (C.meaning self.now.carrier)) (call_of call)) }
         ensures admitted { IfNone result (Admitted (view table.now) memory.now hand.now (call_of call)) }
     {
         if let Some(reason) = self.unready(table, memory, hand) {

@@ -15,7 +15,7 @@ use table::table::Checked;
 impl<'a, K: Reading, C: Carrier> Fleet<'a, K, C> {
     // The carrier stops holding the copy with this number.
     pub fn retire(&mut self, number: u32) -> Result<(), Fault>
-        ensures { C.Carrier.sound self.old.carrier → RetiredBy self.old.live (C.Carrier.meaning self.old.carrier) self.new.live (C.Carrier.meaning self.new.carrier) number result (C.Carrier.sound self.new.carrier) }
+        ensures { C.sound self.old.carrier → RetiredBy self.old.live (C.meaning self.old.carrier) self.new.live (C.meaning self.new.carrier) number result (C.sound self.new.carrier) }
     {
         if !self.live {
             return Err(Fault {
@@ -34,7 +34,7 @@ impl<'a, K: Reading, C: Carrier> Fleet<'a, K, C> {
         hand: &[u32],
         copy: u32,
     ) -> Result<Reply, Fault>
-        ensures { C.Carrier.sound self.old.carrier → Called K.Reading.code (word_kind K.Reading.word K.Reading.reading K.Reading.joined K.Reading.less K.Reading.inside K.Reading.equal) (view table.now) self.old.live (state memory.now hand.now (C.Carrier.meaning self.old.carrier)) self.new.live (state memory.now hand.now (C.Carrier.meaning self.new.carrier)) (retire_call copy) result (C.Carrier.sound self.new.carrier) }
+        ensures { C.sound self.old.carrier → Called K.code (word_kind K.word K.reading K.joined K.less K.inside K.equal) (view table.now) self.old.live (state memory.now hand.now (C.meaning self.old.carrier)) self.new.live (state memory.now hand.now (C.meaning self.new.carrier)) (retire_call copy) result (C.sound self.new.carrier) }
     {
         if let Some(reason) = self.refusal(table, memory, hand, Call::Retire { number: copy }) {
             return Err(Fault { reason, place: 0 });

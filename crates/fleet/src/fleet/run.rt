@@ -27,7 +27,7 @@ impl<'a, K: Reading, C: Carrier> Fleet<'a, K, C> {
         call: Call,
     ) -> Result<Reply, Fault>
         ensures word { WordCall (call_of call) }
-        ensures made { C.Carrier.sound self.old.carrier → Called K.Reading.code (word_kind K.Reading.word K.Reading.reading K.Reading.joined K.Reading.less K.Reading.inside K.Reading.equal) (view table.now) self.old.live (state memory.old hand.old (C.Carrier.meaning self.old.carrier)) self.new.live (state memory.new hand.new (C.Carrier.meaning self.new.carrier)) (call_of call) result (C.Carrier.sound self.new.carrier) }
+        ensures made { C.sound self.old.carrier → Called K.code (word_kind K.word K.reading K.joined K.less K.inside K.equal) (view table.now) self.old.live (state memory.old hand.old (C.meaning self.old.carrier)) self.new.live (state memory.new hand.new (C.meaning self.new.carrier)) (call_of call) result (C.sound self.new.carrier) }
     {
         match call {
             Call::Set {
@@ -51,8 +51,8 @@ impl<'a, K: Reading, C: Carrier> Fleet<'a, K, C> {
         calls: &[Call],
         replies: &mut [Result<Reply, Fault>],
     ) -> Result<(), Fault>
-        ensures ran { C.Carrier.sound self.old.carrier → Ran K.Reading.code (word_kind K.Reading.word K.Reading.reading K.Reading.joined K.Reading.less K.Reading.inside K.Reading.equal) (view table.now) self.old.live (state memory.old hand.old (C.Carrier.meaning self.old.carrier)) self.new.live (state memory.new hand.new (C.Carrier.meaning self.new.carrier)) (listed calls.now) replies.old replies.new result (C.Carrier.sound self.new.carrier) }
-        ensures law { OnOk result (C.Carrier.sound self.old.carrier → New (word_kind K.Reading.word K.Reading.reading K.Reading.joined K.Reading.less K.Reading.inside K.Reading.equal) (view table.now) (state memory.old hand.old (C.Carrier.meaning self.old.carrier)) → AnsweredLaw (kind_of K.Reading.word K.Reading.reading K.Reading.joined K.Reading.less K.Reading.inside K.Reading.equal) (view table.now) (state memory.old hand.old (C.Carrier.meaning self.old.carrier)) (listed calls.now) (said_by replies.new) memory.new) }
+        ensures ran { C.sound self.old.carrier → Ran K.code (word_kind K.word K.reading K.joined K.less K.inside K.equal) (view table.now) self.old.live (state memory.old hand.old (C.meaning self.old.carrier)) self.new.live (state memory.new hand.new (C.meaning self.new.carrier)) (listed calls.now) replies.old replies.new result (C.sound self.new.carrier) }
+        ensures law { OnOk result (C.sound self.old.carrier → New (word_kind K.word K.reading K.joined K.less K.inside K.equal) (view table.now) (state memory.old hand.old (C.meaning self.old.carrier)) → AnsweredLaw (kind_of K.word K.reading K.joined K.less K.inside K.equal) (view table.now) (state memory.old hand.old (C.meaning self.old.carrier)) (listed calls.now) (said_by replies.new) memory.new) }
     {
         if let Some(reason) = self.unready(table, memory, hand) {
             return Err(Fault { reason, place: 0 });

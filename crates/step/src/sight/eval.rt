@@ -128,7 +128,7 @@ impl Sight<'_> {
     // The word of node `i`, which names only lower nodes.
     pub(crate) fn word<K: Reading>(&self, node: Node, i: usize, past: Past) -> u32
         requires { (names_below self.now.switches (length self.now.words.now) node ≡ true) × ((length self.now.words.now ≤ self.now.nodes) × (i < self.now.nodes)) }
-        ensures { result ≡ node_word (word_kind word reading joined less inside equal) (seen self.now) (past_of (seen self.now) past i) node }
+        ensures { result ≡ node_word (word_kind K.word K.reading K.joined K.less K.inside K.equal) (seen self.now) (past_of (seen self.now) past i) node }
     {
         match node {
             Node::Truth(b) => truth_word(b),

@@ -57,10 +57,10 @@ fn read_table<K: Reading>(
     rules: &mut [Rule],
 ) -> Result<Figures, Fault>
     requires { (max_nodes ≤ length nodes.old) × (max_rules ≤ length rules.old) }
-    ensures value { counted result (λ f. table_with bytes.now f nodes.new rules.new) ≡ table_front code bytes.now }
+    ensures value { counted result (λ f. table_with bytes.now f nodes.new rules.new) ≡ table_front K.code bytes.now }
     ensures figures { IfOk result (λ f. Within f (table_with bytes.now f nodes.new rules.new) (length bytes.now)) }
     ensures bytes { Bytes bytes.now }
-    ensures laws { TableLaws code bytes.now }
+    ensures laws { TableLaws K.code bytes.now }
     ensures places { IfErr result (λ e. e.place ≤ longest_table) }
 {
     let mut reader = Reader::new(bytes, Reason::TableLength);
@@ -86,7 +86,7 @@ fn fill<'a, K: Reading>(
     nodes: [Node; 48],
     rules: [Rule; 16],
 )
-    requires { (table_front code bytes.now ≡ Ok (table_with bytes.now figures nodes rules)) × ((Within figures (table_with bytes.now figures nodes rules) (length bytes.now)) × (Bytes bytes.now)) }
+    requires { (table_front K.code bytes.now ≡ Ok (table_with bytes.now figures nodes rules)) × ((Within figures (table_with bytes.now figures nodes rules) (length bytes.now)) × (Bytes bytes.now)) }
     ensures value { view place.new ≡ table_with bytes.now figures nodes rules }
     ensures bytes { place.new.bytes.now ≡ take figures.length bytes.now }
     ensures whole { figures.length ≡ length bytes.now → place.new.bytes.now ≡ bytes.now }
@@ -104,10 +104,10 @@ fn fill<'a, K: Reading>(
 
 // Accepts the table that is all of the draft and fills `place` with it, or refuses and leaves `place`.
 pub fn check<'a, K: Reading>(draft: Draft<'a>, place: &mut Checked<'a>) -> Result<(), Fault>
-    ensures value { filled result (view place.new) ≡ table_alone code draft.entry.bytes.now }
+    ensures value { filled result (view place.new) ≡ table_alone K.code draft.entry.bytes.now }
     ensures bytes { is_ok result ≡ true → place.new.bytes.now ≡ draft.entry.bytes.now }
     ensures kept { is_ok result ≡ false → place.new ≡ place.old }
-    ensures laws { TableLaws code draft.entry.bytes.now }
+    ensures laws { TableLaws K.code draft.entry.bytes.now }
     ensures places { IfErr result (λ e. e.place ≤ longest_table) }
 {
     let bytes = draft.bytes;
@@ -130,11 +130,11 @@ pub fn check_front<'a, K: Reading>(
     draft: Draft<'a>,
     place: &mut Checked<'a>,
 ) -> Result<usize, Fault>
-    ensures value { counted result (λ length. view place.new) ≡ table_front code draft.entry.bytes.now }
+    ensures value { counted result (λ length. view place.new) ≡ table_front K.code draft.entry.bytes.now }
     ensures length { IfOk result (λ n. n ≡ table_length (view place.new)) }
     ensures bytes { IfOk result (λ n. place.new.bytes.now ≡ take n draft.entry.bytes.now) }
     ensures kept { is_ok result ≡ false → place.new ≡ place.old }
-    ensures laws { TableLaws code draft.entry.bytes.now }
+    ensures laws { TableLaws K.code draft.entry.bytes.now }
     ensures places { IfErr result (λ e. e.place ≤ longest_table) }
 {
     let bytes = draft.bytes;

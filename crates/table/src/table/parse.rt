@@ -137,7 +137,7 @@ fn read_between(reader: &mut Reader, low: u32, high: u32) -> Result<usize, Fault
 // The next field, if it is the code of the kind.
 fn read_code<K: Reading>(reader: &mut Reader) -> Result<u32, Fault>
     requires { reader.old.short ≡ TableLength }
-    ensures value { result ≡ tested (λ w. nat_eq w code) reader.old.bytes.now reader.old.at }
+    ensures value { result ≡ tested (λ w. nat_eq w K.code) reader.old.bytes.now reader.old.at }
     ensures reader { Advanced reader.old reader.new (is_ok result) 4 }
 {
     let at = reader.offset();
@@ -151,7 +151,7 @@ fn read_code<K: Reading>(reader: &mut Reader) -> Result<u32, Fault>
 // The kind's code, the number of switches and the number of nodes.
 pub(crate) fn read_header<K: Reading>(reader: &mut Reader) -> Result<Header, Fault>
     requires { (reader.old.short ≡ TableLength) × (reader.old.at ≡ 0) }
-    ensures value { result ≡ header_of code reader.old.bytes.now }
+    ensures value { result ≡ header_of K.code reader.old.bytes.now }
     ensures range { IfOk result (λ h. (h.switches ≤ max_switches) × (h.nodes ≤ max_nodes)) }
     ensures reader { Advanced reader.old reader.new (is_ok result) nodes_start }
 {

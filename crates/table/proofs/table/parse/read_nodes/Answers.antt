@@ -15,15 +15,15 @@ returns-in-err-nodes c =
 
 pub loop-i-preserved : goal.loop-i-preserved
 loop-i-preserved c =
-    let well : is_ok c.read-node.result ≡ true = ap is_ok c.in-ok-nodes.was in
-    let moved : c.read-node.new.reader.at ≡ c.loop-i.reader.at + node_size = c.read-node.ensures.reader.at well in
+    let well : is_ok c.read_node.result ≡ true = ap is_ok c.in_ok-nodes.was in
+    let moved : c.read_node.new.reader.at ≡ c.loop-i.reader.at + node_size = c.read_node.ensures.reader.at well in
     let within : c.loop-i.i < length c.loop-i.nodes = omega arith in (
       search rules,
       search rules,
       omega arith,
       search rules,
       filled_more (node_at c.args.switches c.args.reader.now.bytes.now) node_size _ _ c.loop-i.i c.args.count _ _ _ c.loop-i-test.true within
-          (read_there (node_at c.args.switches) _ _ _ c.loop-i.i c.loop-i.nodes _ _ c.loop-i.invariant.0 c.read-node.ensures.value c.in-ok-nodes.was)
+          (read_there (node_at c.args.switches) _ _ _ c.loop-i.i c.loop-i.nodes _ _ c.loop-i.invariant.0 c.read_node.ensures.value c.in_ok-nodes.was)
           moved c.loop-i.invariant.4,
     )
 

@@ -15,15 +15,15 @@ returns-in-err-rules c =
 
 pub loop-i-preserved : goal.loop-i-preserved
 loop-i-preserved c =
-    let well : is_ok c.read-rule.result ≡ true = ap is_ok c.in-ok-rules.was in
-    let moved : c.read-rule.new.reader.at ≡ c.loop-i.reader.at + rule_size = c.read-rule.ensures.reader.at well in
+    let well : is_ok c.read_rule.result ≡ true = ap is_ok c.in_ok-rules.was in
+    let moved : c.read_rule.new.reader.at ≡ c.loop-i.reader.at + rule_size = c.read_rule.ensures.reader.at well in
     let within : c.loop-i.i < length c.loop-i.rules = omega arith in (
       search rules,
       search rules,
       omega arith,
       search rules,
       filled_more (λ at earlier. rule_at c.args.switches c.args.nodes.now c.args.reader.now.bytes.now at (length earlier)) rule_size _ _ c.loop-i.i c.args.count _ _ _ c.loop-i-test.true within
-          (read_nth (rule_at c.args.switches c.args.nodes.now) _ _ _ c.loop-i.i c.loop-i.rules _ _ (omega arith) c.loop-i.invariant.0 c.read-rule.ensures.value c.in-ok-rules.was)
+          (read_nth (rule_at c.args.switches c.args.nodes.now) _ _ _ c.loop-i.i c.loop-i.rules _ _ (omega arith) c.loop-i.invariant.0 c.read_rule.ensures.value c.in_ok-rules.was)
           moved c.loop-i.invariant.4,
     )
 

@@ -24,18 +24,18 @@ loop-i-init c =
 
 pub loop-i-preserved : goal.loop-i-preserved
 loop-i-preserved c =
-    let reads : field TableLength c.args.reader.now.bytes.now c.loop-i.reader.at ≡ Ok c.in-ok-field.field-0 = search rules in
-    let moved : c.field.new.self.at ≡ c.loop-i.reader.at + 4 = c.in-ok-field.ensures.at in (
+    let reads : field TableLength c.args.reader.now.bytes.now c.loop-i.reader.at ≡ Ok c.in_ok-field.field-0 = search rules in
+    let moved : c.field.new.self.at ≡ c.loop-i.reader.at + 4 = c.in_ok-field.ensures.at in (
       search rules,
       search rules,
       omega arith,
-      rw moved (words_turn _ c.args.reader.now.at c.loop-i.reader.at c.loop-i.-i c.args.count _ c.loop-i-test.true c.loop-i.invariant.2 c.loop-i.invariant.3 _ reads),
+      rw moved (words_turn _ c.args.reader.now.at c.loop-i.reader.at c.loop-i._i c.args.count _ c.loop-i-test.true c.loop-i.invariant.2 c.loop-i.invariant.3 _ reads),
     )
 
 pub returns : goal.returns
 returns c =
-    let all : c.args.count ≡ c.loop-i.-i = omega arith in
+    let all : c.args.count ≡ c.loop-i._i = omega arith in
     record {
-      value = ap (λ k. Ok (words_at c.args.reader.now.bytes.now c.args.reader.now.at k)) all ∙ sym (items_done _ 4 c.loop-i.reader.at c.loop-i.-i c.args.count _ c.loop-i-test.false) ∙ c.loop-i.invariant.3;
+      value = ap (λ k. Ok (words_at c.args.reader.now.bytes.now c.args.reader.now.at k)) all ∙ sym (items_done _ 4 c.loop-i.reader.at c.loop-i._i c.args.count _ c.loop-i-test.false) ∙ c.loop-i.invariant.3;
       reader = search rules;
     }
