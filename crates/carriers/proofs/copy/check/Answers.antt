@@ -13,7 +13,7 @@ returns-then-not-known c =
     record {
       value = ap Err c.foreign.ensures ∙ sym (cond-false _ _ _ no_kind);
       places = subst (λ e. e.place ≤ longest_copy) (sym c.foreign.ensures) (omega arith);
-      laws = copy_laws _ _ _ _ (slice_bytes _ c.type-inv.bytes);
+      laws = copy_laws _ _ _ _ (slice_bytes _ c.type_inv.bytes);
     }
 
 pub returns : goal.returns
@@ -22,7 +22,7 @@ returns c =
     let kind : known c.args.code c.args.switches c.args.nodes ≡ true = sym c.known.ensures ∙ c.if-not-known.false in
     let few = known_few c.args.code c.args.switches c.args.nodes kind in
     record {
-      value = c.check-bytes.ensures.value ∙ sym (cond-true _ _ _ kind);
-      places = subst (λ r. IfErr r (λ e. e.place ≤ longest_copy)) (sym c.check-bytes.ensures.value) (copy_places _ _ _ _ few.0 few.1);
-      laws = copy_laws _ _ _ _ (slice_bytes _ c.type-inv.bytes);
+      value = c.check_bytes.ensures.value ∙ sym (cond-true _ _ _ kind);
+      places = subst (λ r. IfErr r (λ e. e.place ≤ longest_copy)) (sym c.check_bytes.ensures.value) (copy_places _ _ _ _ few.0 few.1);
+      laws = copy_laws _ _ _ _ (slice_bytes _ c.type_inv.bytes);
     }

@@ -9,6 +9,6 @@ returns c =
     let t = view c.args.table.now in
     let s = c.args.switch in
     let k = records_length t.switches (length t.nodes) in
-    let wide : c.block-length-records.result - 8 ≡ k = omega (arith, c.block-length-records.ensures) in
-    copied c.args.hand.now c.copy-from-slice.new.self s k _ c.requires.1 (omega (arith, wide))
-    ∙ ap (λ ys. s ∷ ys) (c.copy-from-slice.ensures.after ∙ front_there t s c.args.memory.now c.requires.0 _ _ c.start-at.ensures.value wide)
+    let wide : c.block_length-records.result - 8 ≡ k = omega (arith, c.block_length-records.ensures) in
+    copied c.args.hand.now c.copy_from_slice.new.self s k _ c.requires.1 (omega (arith, wide))
+    ∙ ap (λ ys. s ∷ ys) (c.copy_from_slice.ensures.after ∙ front_there t s c.args.memory.now c.requires.0 _ _ c.start-at.ensures.value wide)

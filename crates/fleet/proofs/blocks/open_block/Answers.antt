@@ -12,7 +12,7 @@ returns g c =
     let s = c.args.switch in
     let memory = c.args.memory.now in
     let place = c.start-at.ensures.value in
-    let wide = c.block-length-size.ensures in
+    let wide = c.block_length-size.ensures in
     put_there t s memory c.requires _ _ place wide c.open.new.block (opened k t s)
     (opened_there t s memory c.requires _ _ place wide k c.open.new.block c.open.ensures.block)
     (c.open.auto.block ∙ part_long t s memory c.requires _ _ place wide)

@@ -11,7 +11,7 @@ loop-switch-preserved g c =
     let i = c.loop-switch.switch in
     let below : i < t.switches = omega (arith, c.loop-switch-test.true, c.switches-switch-end.ensures.value) in
     let more = one_more k t c.args.table.now.fit c.loop-switch.memory (c.loop-switch.auto.memory ∙ c.requires) i below c.loop-switch.invariant in
-    rw c.open-block.ensures more
+    rw c.open_block.ensures more
 
 pub returns : goal.returns
 returns g c =

@@ -15,7 +15,7 @@ returns g c =
     let memory = c.args.memory.now in
     let inside = c.requires.inside in
     let place = c.start-at.ensures.value in
-    let wide = c.block-length-size.ensures in
+    let wide = c.block_length-size.ensures in
     let answered = answered_there t s memory inside _ _ place wide a c.requires k c.step.result c.step.ensures.answer in
     let unwrapped = c.unwrap.ensures in
     record {

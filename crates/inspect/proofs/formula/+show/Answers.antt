@@ -13,27 +13,27 @@ returns g t c plain ok =
     let d = c.args.formula.depth in
     let x = c.form-form.result in
     let part = operand_text k nodes d in
-    let first = c.write-opening.new.f in
+    let first = c.write_opening.new.f in
     let last = c.match-form.f in
     let strong = c.strength-strength.ensures in
     let rank = c.rank.ensures ∙ ap rank_of strong in
     let around = c.rank-2.ensures in
-    let opened = c.in-ok-write-opening.ensures plain refl in
+    let opened = c.in_ok-write_opening.ensures plain refl in
     let body : HasWritten took first (body_text k x part) last =
     elim c.match-form.branch [
       | goal.in-Truth+in-ok-write w ↦
-          placed took k part x _ first last _ w.in-Truth.is w.f-is (w.in-ok-write.ensures.shows opened.plain refl)
+          placed took k part x _ first last _ w.in-Truth.is w.f-is (w.in_ok-write.ensures.shows opened.plain refl)
       | goal.in-Register+in-ok-write-2 w ↦
-          placed took k part x _ first last _ w.in-Register.is w.f-is (w.in-ok-write-2.ensures.shows opened.plain refl)
+          placed took k part x _ first last _ w.in-Register.is w.f-is (w.in_ok-write-2.ensures.shows opened.plain refl)
       | goal.in-Constant+in-ok-write-3 w ↦
-          placed took k part x _ first last _ w.in-Constant.is w.f-is (w.in-ok-write-3.ensures.shows opened.plain refl)
+          placed took k part x _ first last _ w.in-Constant.is w.f-is (w.in_ok-write-3.ensures.shows opened.plain refl)
       | goal.in-Name+in-ok-write-4 w ↦
-          placed took k part x _ first last _ w.in-Name.is w.f-is (w.in-ok-write-4.ensures.shows opened.plain refl)
+          placed took k part x _ first last _ w.in-Name.is w.f-is (w.in_ok-write-4.ensures.shows opened.plain refl)
       | goal.in-Prefix+in-ok-write-5+in-ok-show w ↦
           let o = w.operand.ensures in
           let at = strong ∙ ap form_strength w.in-Prefix.is in
-          let one = w.in-ok-write-5.ensures.shows opened.plain refl in
-          let two = w.in-ok-show.ensures one.plain refl in
+          let one = w.in_ok-write-5.ensures.shows opened.plain refl in
+          let two = w.in_ok-show.ensures one.plain refl in
           placed took k part x _ first last _ w.in-Prefix.is w.f-is
           (put_is took _ _ _ _ (prefixed _ _ _ _ w.word-word.ensures (λ i. formula_text (o.kind i) (o.nodes i) (o.depth i) (o.node i) (at i)))
           (put_more took _ _ _ _ _ one two))
@@ -41,22 +41,22 @@ returns g t c plain ok =
           let o = w.operand-in-Infix.ensures in
           let q = w.operand-in-Infix-2.ensures in
           let at = strong ∙ ap form_strength w.in-Infix.is in
-          let one = w.in-ok-show-2.ensures opened.plain refl in
-          let two = w.in-ok-write-6.ensures.shows one.plain refl in
-          let three = w.in-ok-show-3.ensures two.plain refl in
+          let one = w.in_ok-show-2.ensures opened.plain refl in
+          let two = w.in_ok-write-6.ensures.shows one.plain refl in
+          let three = w.in_ok-show-3.ensures two.plain refl in
           placed took k part x _ first last _ w.in-Infix.is w.f-is
           (put_is took _ _ _ _
-          (infixed _ _ _ _ _ _ (λ i. formula_text (o.kind i) (o.nodes i) (o.depth i) (o.node i) (at i)) w.word-word-in-Infix.ensures
+          (infixed _ _ _ _ _ _ (λ i. formula_text (o.kind i) (o.nodes i) (o.depth i) (o.node i) (at i)) w.word-word_in-Infix.ensures
           (λ i. formula_text (q.kind i) (q.nodes i) (q.depth i) (q.node i) (at i)))
           (put_more took _ _ _ _ _ one (put_more took _ _ _ _ _ two three)))
       | goal.in-At+in-ok-show-4+in-ok-write-7 w ↦
           let o = w.operand-in-At.ensures in
           let at = strong ∙ ap form_strength w.in-At.is in
-          let one = w.in-ok-show-4.ensures opened.plain refl in
-          let two = w.in-ok-write-7.ensures.shows one.plain refl in
+          let one = w.in_ok-show-4.ensures opened.plain refl in
+          let two = w.in_ok-write-7.ensures.shows one.plain refl in
           placed took k part x _ first last _ w.in-At.is w.f-is
           (put_is took _ _ _ _ (suffixed _ _ _ (λ i. formula_text (o.kind i) (o.nodes i) (o.depth i) (o.node i) (at i)))
           (put_more took _ _ _ _ _ one two))
     ] in
-    assembled took k nodes d c.args.formula.node c.args.around x _ c.args.f.now first last c.write-closing.new.f
-    c.form-form.ensures.value c.form-form.ensures.deep (λ i. leb (rank i) (around i)) opened body (c.write-closing.ensures body.plain ok)
+    assembled took k nodes d c.args.formula.node c.args.around x _ c.args.f.now first last c.write_closing.new.f
+    c.form-form.ensures.value c.form-form.ensures.deep (λ i. leb (rank i) (around i)) opened body (c.write_closing.ensures body.plain ok)

@@ -4,8 +4,8 @@ use Rattle.step.specs.StepLaws.{record_words}
 use Rattle.step.proofs.Rows.{row_inside, words_part}
 use Rattle.inspect.proofs.opening.own_words.Goals as goal
 
-pub slice-bounds-result-end : goal.slice-bounds-result-end
-slice-bounds-result-end c =
+pub slice_bounds-result-end : goal.slice_bounds-result-end
+slice_bounds-result-end c =
     let s = c.args.switch in
     let n = (view c.args.table.now).switches in
     let m = length c.nodes-nodes.result.now in

@@ -5,5 +5,5 @@ use Rattle.listing.proofs.events.read_calls.Given as goal
 
 abbrev pub invariant-loop-i : goal.invariant-loop-i
 invariant-loop-i l =
-    (l.reader.bytes.now ≡ l.initial.reader.bytes.now) × (l.reader.short ≡ Events) × (l.reader.at ≡ l.initial.reader.at + l.-i * call_size)
-    × (calls_from l.initial.reader.bytes.now l.reader.at (l.count - l.-i) (vec_items l.calls) ≡ calls_from l.initial.reader.bytes.now l.initial.reader.at l.count [])
+    (l.reader.bytes.now ≡ l.initial.reader.bytes.now) × (l.reader.short ≡ Events) × (l.reader.at ≡ l.initial.reader.at + l._i * call_size)
+    × (calls_from l.initial.reader.bytes.now l.reader.at (l.count - l._i) (vec_items l.calls) ≡ calls_from l.initial.reader.bytes.now l.initial.reader.at l.count [])

@@ -2,9 +2,9 @@ use Rattle.std.proofs.Common.{rules}
 use Rattle.listing.specs.Events.{unused_at}
 use Rattle.listing.proofs.events.read_unused.Goals as goal
 
-pub returns-in-err-field : goal.returns-in-err-field
+pub returns-in_err-field : goal.returns-in_err-field
 unfolding unused_at
-returns-in-err-field c = search rules
+returns-in_err-field c = search rules
 
 pub returns-then-branch-ne0 : goal.returns-then-branch-ne0
 unfolding unused_at

@@ -28,5 +28,5 @@ returns g c =
           let k = word_kind g.K.Reading.word g.K.Reading.reading g.K.Reading.joined g.K.Reading.less g.K.Reading.inside g.K.Reading.equal in
           let done = c.run-ran.ensures.ran (subst g.C.Carrier.sound (sym same) sound) in
           rehearses _ k t f _ _ (c.open-fleet.ensures.fleet sound) (listed c.args.calls.now) c.args.replies.now _ _ _ _ _ _ _ _
-          (ap g.C.Carrier.meaning same) c.open-fleet.auto.memory done (c.look-all.ensures done.sound);
+          (ap g.C.Carrier.meaning same) c.open-fleet.auto.memory done (c.look_all.ensures done.sound);
     }

@@ -6,8 +6,8 @@ use Rattle.step.proofs.Laws.{step_law, slice_words}
 use Rattle.step.proofs.Ready.{placed, all_ready, rules_ready, words_same}
 use Rattle.step.proofs.advance.work_out.Goals as goal
 
-pub own-words-requires : goal.own-words-requires
-own-words-requires g c =
+pub own_words-requires : goal.own_words-requires
+own_words-requires g c =
     let t = view c.args.table.now in
     let fit = c.args.table.now.fit in (
       placed t fit c.args.switch c.args.block.now c.requires.0 _ _ c.switches.ensures.value c.nodes-nodes.ensures.value,
@@ -30,6 +30,6 @@ returns g c =
     let said = c.broken.ensures ∙ (λ i. mask c.args.switch (words i) (c.rules.ensures.value i)) in
     record {
       words = words;
-      law = step_law (kind_of g.K.Reading.word g.K.Reading.reading g.K.Reading.joined g.K.Reading.less g.K.Reading.inside g.K.Reading.equal) g.K.Reading.held (record { back = g.met.K.Reading.back; fits = g.met.K.Reading.fits; reads = g.met.K.Reading.reads; joins = g.met.K.Reading.joins; cuts = g.met.K.Reading.cuts }) t c.args.table.now.fit c.args.switch c.args.block.now c.broken.result c.requires.0 (slice_words _ c.type-inv.block) said;
+      law = step_law (kind_of g.K.Reading.word g.K.Reading.reading g.K.Reading.joined g.K.Reading.less g.K.Reading.inside g.K.Reading.equal) g.K.Reading.held (record { back = g.met.K.Reading.back; fits = g.met.K.Reading.fits; reads = g.met.K.Reading.reads; joins = g.met.K.Reading.joins; cuts = g.met.K.Reading.cuts }) t c.args.table.now.fit c.args.switch c.args.block.now c.broken.result c.requires.0 (slice_words _ c.type_inv.block) said;
       mask = said;
     }

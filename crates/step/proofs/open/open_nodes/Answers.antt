@@ -7,8 +7,8 @@ use Rattle.step.proofs.Columns.{columns_turn, columns_done}
 use Rattle.step.proofs.Ready.{node_ready}
 use Rattle.step.proofs.open.open_nodes.Goals as goal
 
-pub open-column-requires : goal.open-column-requires
-open-column-requires g c =
+pub open_column-requires : goal.open_column-requires
+open_column-requires g c =
     let same = ap length c.nodes-nodes.ensures.value in (
       omega (arith, c.requires),
       (
@@ -23,7 +23,7 @@ loop-i-preserved g c =
     let t = view c.args.table.now in
     let same = c.nodes-nodes.ensures.value in
     let lt : c.loop-i.i < length t.nodes = omega (arith, ap length same, c.loop-i-test.true) in
-    let made = c.open-column.ensures ∙ ap (λ xs. column k t (get_or xs c.loop-i.i (Truth false)) c.loop-i.i c.loop-i.block t.switches) same in
+    let made = c.open_column.ensures ∙ ap (λ xs. column k t (get_or xs c.loop-i.i (Truth false)) c.loop-i.i c.loop-i.block t.switches) same in
     rw made (columns_turn k t t.nodes (Truth false) c.loop-i.i c.loop-i.block _ lt c.loop-i.invariant)
 
 pub returns : goal.returns

@@ -7,8 +7,8 @@ use Rattle.step.proofs.open.starts.Goals as goal
 pub loop-g-preserved : goal.loop-g-preserved
 loop-g-preserved c =
     let lt : c.loop-g.g < length c.loop-g.words = omega arith in
-    let said = c.unwrap-or.ensures ∙ ap (λ o. unwrap_or o 0) c.starting-word.ensures ∙ start_value (view c.args.table.now) c.args.switch c.loop-g.g c.requires c.loop-g-test.true in (
-      length-set c.loop-g.words c.loop-g.g c.unwrap-or.result ∙ c.loop-g.invariant.0,
+    let said = c.unwrap_or.ensures ∙ ap (λ o. unwrap_or o 0) c.starting_word.ensures ∙ start_value (view c.args.table.now) c.args.switch c.loop-g.g c.requires c.loop-g-test.true in (
+      length-set c.loop-g.words c.loop-g.g c.unwrap_or.result ∙ c.loop-g.invariant.0,
       below_more _ _
           (λ k h. let ne : k ≢ c.loop-g.g = omega arith in rw get_or-set_other (c.loop-g.invariant.1 k h))
           (rw get_or-set_same said),

@@ -7,7 +7,7 @@ use Rattle.step.proofs.records.take_hand.Goals as goal
 
 pub returns : goal.returns
 returns c =
-    let value = c.take-over.ensures ∙ ap (λ copy. taken c.args.nodes c.args.switch copy c.args.block.now c.args.count) (take_rest c.args.hand.now 1) in
+    let value = c.take_over.ensures ∙ ap (λ copy. taken c.args.nodes c.args.switch copy c.args.block.now c.args.count) (take_rest c.args.hand.now 1) in
     let full : records_length c.args.count c.args.nodes ≤ length (drop 1 c.args.hand.now) = omega (arith, length-drop 1 c.args.hand.now, c.requires.1) in
     record {
       value = value;

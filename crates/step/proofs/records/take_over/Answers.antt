@@ -8,6 +8,6 @@ loop-j-init c = taken_none c.args.nodes c.args.switch c.args.copy.now c.args.blo
 
 pub loop-j-preserved : goal.loop-j-preserved
 loop-j-preserved c =
-    c.take-one.ensures
+    c.take_one.ensures
     ∙ ap (λ b. taken_one c.args.nodes c.args.switch c.args.copy.now b c.loop-j.j) c.loop-j.invariant
     ∙ taken_more c.args.nodes c.args.switch c.args.copy.now c.args.block.now c.loop-j.j

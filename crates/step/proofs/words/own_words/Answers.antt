@@ -7,8 +7,8 @@ use Rattle.step.specs.Steps.{own_word}
 use Rattle.step.proofs.NewWords.{named_at, words_turn, words_done}
 use Rattle.step.proofs.words.own_words.Goals as goal
 
-pub own-word-requires : goal.own-word-requires
-own-word-requires g c =
+pub own_word-requires : goal.own_word-requires
+own_word-requires g c =
     let inside : c.loop-i.i - 0 ≤ length c.loop-i.words = omega arith in
     let whole : c.loop-i.i - 0 ≡ c.loop-i.i = omega arith in
     let front = length-take-le (c.loop-i.i - 0) c.loop-i.words inside ∙ whole in

@@ -2,13 +2,13 @@ use Rattle.std.proofs.Common.{rules}
 use Rattle.carriers.specs.Copies.{copy_read}
 use Rattle.carriers.proofs.copy.checking.check_bytes.Goals as goal
 
-pub returns-in-err-check-header : goal.returns-in-err-check-header
+pub returns-in_err-check_header : goal.returns-in_err-check_header
 unfolding copy_read
-returns-in-err-check-header c = search rules
+returns-in_err-check_header c = search rules
 
-pub returns-in-err-check-records : goal.returns-in-err-check-records
+pub returns-in_err-check_records : goal.returns-in_err-check_records
 unfolding copy_read
-returns-in-err-check-records c = search rules
+returns-in_err-check_records c = search rules
 
 pub returns-then-end-bytes : goal.returns-then-end-bytes
 unfolding copy_read

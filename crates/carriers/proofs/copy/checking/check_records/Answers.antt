@@ -4,11 +4,11 @@ use Rattle.carriers.specs.Copies.{record_offset, record_read, record_size}
 use Rattle.carriers.proofs.EachRead.{each_none, each_more, each_stop, each_end}
 use Rattle.carriers.proofs.copy.checking.check_records.Goals as goal
 
-pub returns-in-err-check-record : goal.returns-in-err-check-record
-returns-in-err-check-record c =
-    let p = err_from_is_err_and c.from-residual.result c.from-residual.ensures.1 in
+pub returns-in_err-check_record : goal.returns-in_err-check_record
+returns-in_err-check_record c =
+    let p = err_from_is_err_and c.from_residual.result c.from_residual.ensures.1 in
     let reads : record_read c.args.nodes c.args.reader.now.bytes.now (record_offset c.args.nodes c.loop-j.-j) ≡ Err _ =
-    (λ i. record_read c.args.nodes (sym c.loop-j.invariant.0 i) (sym c.loop-j.invariant.2 i)) ∙ sym c.check-record.ensures.value ∙ c.in-err-check-record.was in
+    (λ i. record_read c.args.nodes (sym c.loop-j.invariant.0 i) (sym c.loop-j.invariant.2 i)) ∙ sym c.check_record.ensures.value ∙ c.in_err-check_record.was in
     rw (p.1, p.2) (record {
       value = sym (each_stop (λ j. record_read c.args.nodes c.args.reader.now.bytes.now (record_offset c.args.nodes j)) c.loop-j.-j c.args.count _ c.loop-j-test.true c.loop-j.invariant.3 reads);
       reader = search rules;
@@ -20,9 +20,9 @@ loop-j-init c = (refl, c.requires.0, c.requires.1.0 ∙ omega arith, each_none (
 pub loop-j-preserved : goal.loop-j-preserved
 loop-j-preserved c =
     let reads : record_read c.args.nodes c.args.reader.now.bytes.now (record_offset c.args.nodes c.loop-j.-j) ≡ Ok tt =
-    (λ i. record_read c.args.nodes (sym c.loop-j.invariant.0 i) (sym c.loop-j.invariant.2 i)) ∙ sym c.check-record.ensures.value ∙ c.in-ok-check-record.was in
-    let well : is_ok c.check-record.result ≡ true = ap is_ok c.in-ok-check-record.was in
-    let moved : c.check-record.new.reader.at ≡ c.loop-j.reader.at + record_size c.args.nodes = c.check-record.ensures.reader.at well in (
+    (λ i. record_read c.args.nodes (sym c.loop-j.invariant.0 i) (sym c.loop-j.invariant.2 i)) ∙ sym c.check_record.ensures.value ∙ c.in_ok-check_record.was in
+    let well : is_ok c.check_record.result ≡ true = ap is_ok c.in_ok-check_record.was in
+    let moved : c.check_record.new.reader.at ≡ c.loop-j.reader.at + record_size c.args.nodes = c.check_record.ensures.reader.at well in (
       search rules,
       search rules,
       omega (arith, add-mul c.loop-j.-j 1 (record_size c.args.nodes)),

@@ -2,9 +2,9 @@ use Rattle.std.proofs.Common.{rules}
 use Rattle.carriers.specs.Copies.{required}
 use Rattle.carriers.proofs.copy.checking.read_exactly.Goals as goal
 
-pub returns-in-err-word : goal.returns-in-err-word
+pub returns-in_err-word : goal.returns-in_err-word
 unfolding required
-returns-in-err-word c = search rules
+returns-in_err-word c = search rules
 
 pub returns-then-word-wanted : goal.returns-then-word-wanted
 unfolding required

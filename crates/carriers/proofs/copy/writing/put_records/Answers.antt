@@ -12,11 +12,11 @@ loop-j-init c = records_none _ _ _
 
 pub loop-j-preserved : goal.loop-j-preserved
 loop-j-preserved c =
-    let from = c.start-in-hand-from.result in
+    let from = c.start_in_hand-from.result in
     let wide : from + c.args.nodes + 1 - from ≡ c.args.nodes + 1 = omega arith in
     let part : take (from + c.args.nodes + 1 - from) (drop from c.args.records.now) ≡ record_of c.args.nodes c.args.records.now c.loop-j.j =
-    (λ i. take (wide i) (drop (c.start-in-hand-from.ensures.value i) c.args.records.now)) in
-    records_turn c.args.bytes.now _ _ c.args.records.now (take (from + c.args.nodes + 1 - from) (drop from c.args.records.now)) c.args.count c.args.nodes c.loop-j.j _ c.requires.1.1.0 c.requires.1.1.1 c.loop-j-test.true c.start-in-bytes-at.ensures.value part c.loop-j.invariant c.put-record.ensures
+    (λ i. take (wide i) (drop (c.start_in_hand-from.ensures.value i) c.args.records.now)) in
+    records_turn c.args.bytes.now _ _ c.args.records.now (take (from + c.args.nodes + 1 - from) (drop from c.args.records.now)) c.args.count c.args.nodes c.loop-j.j _ c.requires.1.1.0 c.requires.1.1.1 c.loop-j-test.true c.start_in_bytes-at.ensures.value part c.loop-j.invariant c.put_record.ensures
 
 pub returns : goal.returns
 returns c =

@@ -19,10 +19,10 @@ returns c =
     let room = c.start-at.ensures.room in
     let long = c.requires.1.1 in
     let wide : length cb ≡ copy_length s.switches s.nodes = length_copy_bytes s.code s.switches s.nodes hand long in
-    let size : length c.write-hand.new.bytes ≡ at + 4 + c.copy-length-size.result - (at + 4) = ap length c.write-hand.ensures ∙ omega (arith, c.copy-length-size.ensures) in
-    let written : put_mid (at + 4) (at + 4 + c.copy-length-size.result - (at + 4)) c.put-word.new.bytes c.write-hand.new.bytes ≡ placed x at (flag ++ cb) =
-    putMid_placed (at + 4) _ c.put-word.new.bytes _ size
-    ∙ (λ i. placed (c.put-word.ensures i) (at + 4) (c.write-hand.ensures i))
+    let size : length c.write_hand.new.bytes ≡ at + 4 + c.copy_length-size.result - (at + 4) = ap length c.write_hand.ensures ∙ omega (arith, c.copy_length-size.ensures) in
+    let written : put_mid (at + 4) (at + 4 + c.copy_length-size.result - (at + 4)) c.put_word.new.bytes c.write_hand.new.bytes ≡ placed x at (flag ++ cb) =
+    putMid_placed (at + 4) _ c.put_word.new.bytes _ size
+    ∙ (λ i. placed (c.put_word.ensures i) (at + 4) (c.write_hand.ensures i))
     ∙ placed_more x at (at + 4) flag cb refl (omega arith) in
     let same = ap length written ∙ length_placed x at (flag ++ cb) (omega (arith, length-append flag cb)) in
     record {

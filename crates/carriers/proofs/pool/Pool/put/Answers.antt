@@ -9,13 +9,13 @@ store-requires g c = (
   c.requires.0,
   (
     (lowest_some _ 0 _ c.in-Some.place (sym c.lowest.ensures ∙ c.in-Some.is)).0,
-    c.if-hand-hand-length.false ∙ c.hand_length.ensures ∙ ap (λ s. hand_length s.switches s.nodes) c.shape-shape.ensures,
+    c.if-hand-hand_length.false ∙ c.hand_length.ensures ∙ ap (λ s. hand_length s.switches s.nodes) c.shape-shape.ensures,
   ),
 )
 
 pub returns-in-None : goal.returns-in-None
 returns-in-None g c =
-    let whole = c.if-hand-hand-length.false ∙ c.hand_length.ensures ∙ ap (λ s. hand_length s.switches s.nodes) c.shape-shape.ensures in
+    let whole = c.if-hand-hand_length.false ∙ c.hand_length.ensures ∙ ap (λ s. hand_length s.switches s.nodes) c.shape-shape.ensures in
     let below = subst (λ s. get_or c.args.hand.now 0 0 < s.switches) c.shape-shape.ensures c.if-hand-shape.false in
     record {
       call = put_full _ _ _ _ c.requires.1 c.args.hand.now c.full-in-None.result c.full-in-None.ensures whole below (sym c.lowest.ensures ∙ c.in-None.is);
@@ -24,7 +24,7 @@ returns-in-None g c =
 
 pub returns-in-Some : goal.returns-in-Some
 returns-in-Some g c =
-    let whole = c.if-hand-hand-length.false ∙ c.hand_length.ensures ∙ ap (λ s. hand_length s.switches s.nodes) c.shape-shape.ensures in
+    let whole = c.if-hand-hand_length.false ∙ c.hand_length.ensures ∙ ap (λ s. hand_length s.switches s.nodes) c.shape-shape.ensures in
     let below = subst (λ s. get_or c.args.hand.now 0 0 < s.switches) c.shape-shape.ensures c.if-hand-shape.false in
     record {
       call = put_stored _ _ _ _ c.requires.1 c.args.hand.now _ _ _ c.in-Some.place c.store.ensures.shape whole below c.if-number.false (sym c.lowest.ensures ∙ c.in-Some.is) c.store.ensures.places;

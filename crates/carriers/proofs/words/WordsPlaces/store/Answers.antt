@@ -12,9 +12,9 @@ returns c =
     let hand = c.args.hand.now in
     let room = c.start-at.ensures.room in
     let long = c.requires.1.1 in
-    let copied = c.copy-from-slice.ensures.after in
-    let size : length c.copy-from-slice.new.self ≡ at + 1 + length hand - (at + 1) = ap length copied ∙ omega arith in
-    let written : put_mid (at + 1) (at + 1 + length hand - (at + 1)) (set x at c.args.flag) c.copy-from-slice.new.self ≡ placed x at (c.args.flag ∷ hand) =
+    let copied = c.copy_from_slice.ensures.after in
+    let size : length c.copy_from_slice.new.self ≡ at + 1 + length hand - (at + 1) = ap length copied ∙ omega arith in
+    let written : put_mid (at + 1) (at + 1 + length hand - (at + 1)) (set x at c.args.flag) c.copy_from_slice.new.self ≡ placed x at (c.args.flag ∷ hand) =
     putMid_placed (at + 1) _ (set x at c.args.flag) _ size
     ∙ (λ i. placed (set_placed x at c.args.flag (omega arith) i) (at + 1) (copied i))
     ∙ placed_more x at (at + 1) (c.args.flag ∷ []) hand refl (omega arith) in

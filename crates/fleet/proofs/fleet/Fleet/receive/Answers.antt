@@ -19,8 +19,8 @@ returns-in-Some g c = λ sound.
     let code = g.K.Reading.code in
     refused_first code k t live f (receive_call s c.args.number) sound c.in-Some.reason (c.in-Some.ensures.value sound)
 
-pub returns-in-err-fetch : goal.returns-in-err-fetch
-returns-in-err-fetch g c = λ sound.
+pub returns-in_err-fetch : goal.returns-in_err-fetch
+returns-in_err-fetch g c = λ sound.
     let k = word_kind g.K.Reading.word g.K.Reading.reading g.K.Reading.joined g.K.Reading.less g.K.Reading.inside g.K.Reading.equal in
     let t = view c.args.table.now in
     let s = c.args.switch in
@@ -28,11 +28,11 @@ returns-in-err-fetch g c = λ sound.
     let live = c.args.self.now.live in
     let code = g.K.Reading.code in
     let x = c.args.number in
-    let none = c.in-default.ensures.value sound in
-    let whole = fetch_is code k t live f (receive_call s x) none x f.hand c.in-default.ensures.admitted.lengths.hand_is in
-    let found = found_refused k t (copy_under x f.carrier.held) f.hand c.in-err-fetch.field-0.0 (sym c.in-err-fetch.was ∙ (c.fetch.ensures sound).answer ∙ whole.0) in
-    let p = err_from_is_err_and c.from-residual.result c.from-residual.ensures.1 in
-    refused_late code k t live f (receive_call s x) sound none why.NotHeld found.0 c.from-residual.result
+    let none = c.in_default.ensures.value sound in
+    let whole = fetch_is code k t live f (receive_call s x) none x f.hand c.in_default.ensures.admitted.lengths.hand_is in
+    let found = found_refused k t (copy_under x f.carrier.held) f.hand c.in_err-fetch.field-0.0 (sym c.in_err-fetch.was ∙ (c.fetch.ensures sound).answer ∙ whole.0) in
+    let p = err_from_is_err_and c.from_residual.result c.from_residual.ensures.1 in
+    refused_late code k t live f (receive_call s x) sound none why.NotHeld found.0 c.from_residual.result
     (p.1 ∙ ap Err p.2 ∙ found.1)
     (state f.memory c.fetch.new.hand f.carrier)
     (ap (λ h. state f.memory h f.carrier) ((c.fetch.ensures sound).hand_is ∙ whole.1 ∙ found.2))

@@ -19,7 +19,7 @@ returns-then-replies-calls g c = record {
       let code = g.K.Reading.code in
       let calls = c.args.calls.now in
       let old = c.args.replies.now in
-      let ready = sym (c.in-default.ensures.value sound) in
+      let ready = sym (c.in_default.ensures.value sound) in
       uneven code k t live f calls old ready sound c.if-replies-calls.true;
 }
 
@@ -34,7 +34,7 @@ loop-i-init g c = (
       let code = g.K.Reading.code in
       let calls = c.args.calls.now in
       let old = c.args.replies.now in
-      let ready = sym (c.in-default.ensures.value sound) in
+      let ready = sym (c.in_default.ensures.value sound) in
       starts code k t live f calls old sound ready,
 )
 
@@ -49,7 +49,7 @@ loop-i-preserved g c = (
       let code = g.K.Reading.code in
       let calls = c.args.calls.now in
       let old = c.args.replies.now in
-      let ready = sym (c.in-default.ensures.value sound) in
+      let ready = sym (c.in_default.ensures.value sound) in
       let so = c.loop-i.invariant.1 sound in
       goes code k t live f calls old _ _ c.loop-i.i c.loop-i.replies so _ c.loop-i-test.true c.if-replies-calls.false _ _ c.call.result (c.call.ensures.made so.sound) c.call.auto.memory c.call.auto.hand,
 )
@@ -77,6 +77,6 @@ returns g c = record {
       let code = g.K.Reading.code in
       let calls = c.args.calls.now in
       let old = c.args.replies.now in
-      let ready = sym (c.in-default.ensures.value sound) in
+      let ready = sym (c.in_default.ensures.value sound) in
       finishes code k t live f calls old ready _ _ c.loop-i.i c.loop-i.replies (c.loop-i.invariant.1 sound) c.loop-i-test.false c.if-replies-calls.false;
 }

@@ -18,19 +18,19 @@ returns-in-Some g c = λ sound.
     let code = g.K.Reading.code in
     refused_first code k t live f (send_call s) sound c.in-Some.reason (c.in-Some.ensures.value sound)
 
-pub returns-in-err-number : goal.returns-in-err-number
-returns-in-err-number g c = λ sound.
+pub returns-in_err-number : goal.returns-in_err-number
+returns-in_err-number g c = λ sound.
     let k = word_kind g.K.Reading.word g.K.Reading.reading g.K.Reading.joined g.K.Reading.less g.K.Reading.inside g.K.Reading.equal in
     let t = view c.args.table.now in
     let s = c.args.switch in
     let f = state c.args.memory.now c.args.hand.now (g.C.Carrier.meaning c.args.self.now.carrier) in
     let live = c.args.self.now.live in
     let code = g.K.Reading.code in
-    let before = c.in-default.ensures.admitted in
-    let memory = c.send-block-outcome.new.memory in
-    let inside : Inside t s memory = record { there = before.able.inside.there; room = c.send-block-outcome.auto.memory ∙ before.lengths.memory_is } in
-    let put = (c.put.ensures sound).answer ∙ (put_is code k t live f s (c.in-default.ensures.value sound) memory inside c.send-block-outcome.new.hand c.send-block-outcome.ensures.hand).0 in
-    let was = c.in-err-number.was in
+    let before = c.in_default.ensures.admitted in
+    let memory = c.send_block-outcome.new.memory in
+    let inside : Inside t s memory = record { there = before.able.inside.there; room = c.send_block-outcome.auto.memory ∙ before.lengths.memory_is } in
+    let put = (c.put.ensures sound).answer ∙ (put_is code k t live f s (c.in_default.ensures.value sound) memory inside c.send_block-outcome.new.hand c.send_block-outcome.ensures.hand).0 in
+    let was = c.in_err-number.was in
     let z : ◌≡◌ {A = ℕ} 0 1 = cc in
     absurd (omega arith)
 
@@ -42,18 +42,18 @@ returns g c = λ sound.
     let f = state c.args.memory.now c.args.hand.now (g.C.Carrier.meaning c.args.self.now.carrier) in
     let live = c.args.self.now.live in
     let code = g.K.Reading.code in
-    let before = c.in-default.ensures.admitted in
-    let none = c.in-default.ensures.value sound in
-    let memory = c.send-block-outcome.new.memory in
-    let hand = c.send-block-outcome.new.hand in
-    let inside : Inside t s memory = record { there = before.able.inside.there; room = c.send-block-outcome.auto.memory ∙ before.lengths.memory_is } in
+    let before = c.in_default.ensures.admitted in
+    let none = c.in_default.ensures.value sound in
+    let memory = c.send_block-outcome.new.memory in
+    let hand = c.send_block-outcome.new.hand in
+    let inside : Inside t s memory = record { there = before.able.inside.there; room = c.send_block-outcome.auto.memory ∙ before.lengths.memory_is } in
     let put = c.put.ensures sound in
-    let answered = put.answer ∙ (put_is code k t live f s none memory inside hand c.send-block-outcome.ensures.hand).0 in
-    let was = c.in-ok-number.was in
-    let number : c.in-ok-number.number ≡ f.carrier.next = cc in
-    let stepped = c.send-block-outcome.ensures.memory in
-    let outcome_is = c.send-block-outcome.ensures.outcome in
+    let answered = put.answer ∙ (put_is code k t live f s none memory inside hand c.send_block-outcome.ensures.hand).0 in
+    let was = c.in_ok-number.was in
+    let number : c.in_ok-number.number ≡ f.carrier.next = cc in
+    let stepped = c.send_block-outcome.ensures.memory in
+    let outcome_is = c.send_block-outcome.ensures.outcome in
     made code k t live f (send_call s) put.sound none refl (Ok c.of.result)
     (ap Ok (c.of.ensures ∙ (λ i. reply_with (outcome_is i) (Some (number i)))))
     (state memory hand (g.C.Carrier.meaning c.put.new.self))
-    (sent code k t live f s none before.able.inside memory hand (g.C.Carrier.meaning c.put.new.self) inside stepped c.send-block-outcome.ensures.hand put.meaning)
+    (sent code k t live f s none before.able.inside memory hand (g.C.Carrier.meaning c.put.new.self) inside stepped c.send_block-outcome.ensures.hand put.meaning)

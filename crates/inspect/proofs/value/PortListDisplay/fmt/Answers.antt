@@ -5,7 +5,7 @@ use Rattle.inspect.proofs.Writing.{put_more}
 use Rattle.inspect.proofs.value.PortListDisplay.fmt.Goals as goal
 
 pub loop-port-init : goal.loop-port-init
-loop-port-init g c = (shifted_none c.args.self.now.bits, none_yet g.W.Write.write_str_gives c.write-str.new.self c.args.self.now.bits)
+loop-port-init g c = (shifted_none c.args.self.now.bits, none_yet g.W.Write.write_str_gives c.write_str.new.self c.args.self.now.bits)
 
 pub loop-port-preserved : goal.loop-port-preserved
 loop-port-preserved g c =
@@ -14,8 +14,8 @@ loop-port-preserved g c =
     let lt : p < port_count = omega arith in
     let there = shifted_first w c.loop-port.rest p c.loop-port.invariant.0 in (
       shifted_more w c.loop-port.rest p c.loop-port.invariant.0,
-      one_tested g.W.Write.write_str_gives c.write-str.new.self c.loop-port.f c.write-port.new.f w p c.loop-port.first _ c.write-port.result lt there c.loop-port.invariant.1 (ap is_ok c.in-ok-write-port.was)
-          c.write-port.ensures,
+      one_tested g.W.Write.write_str_gives c.write_str.new.self c.loop-port.f c.write_port.new.f w p c.loop-port.first _ c.write_port.result lt there c.loop-port.invariant.1 (ap is_ok c.in_ok-write_port.was)
+          c.write_port.ensures,
     )
 
 pub returns-clause-writes : goal.returns-clause-writes
@@ -24,6 +24,6 @@ returns-clause-writes g c plain ok =
     let p = c.loop-port.port in
     let took = g.W.Write.write_str_gives in
     let end : p ≡ port_count = omega arith in
-    let opened = c.in-ok-write-str.ensures.writes plain refl in
-    let listed = all_of took c.write-str.new.self c.loop-port.f w p c.loop-port.first end c.loop-port.invariant.1 opened.plain in
-    put_more took _ _ _ _ _ opened (put_more took _ _ _ _ _ listed (c.write-str-2.ensures.writes listed.plain ok))
+    let opened = c.in_ok-write_str.ensures.writes plain refl in
+    let listed = all_of took c.write_str.new.self c.loop-port.f w p c.loop-port.first end c.loop-port.invariant.1 opened.plain in
+    put_more took _ _ _ _ _ opened (put_more took _ _ _ _ _ listed (c.write_str-2.ensures.writes listed.plain ok))

@@ -5,9 +5,16 @@ use Rattle.table.specs.Wire.{word_at}
 use Rattle.table.proofs.table.Checked.worked.Goals as goal
 
 -- by computation
-pub invariant-of-result : goal.invariant-of-result
+pub invariant_of-result : goal.invariant_of-result
 unfolding sound table_bytes nodes_sound words_at word_at truth_node reading_node
-invariant-of-result c = (lit≤ tt, (lit≤ tt, (lit≤ tt, (refl, (refl, (refl, tt))))))
+invariant_of-result c = record {
+  few_switches = lit≤ tt;
+  few_nodes = lit≤ tt;
+  few_rules = lit≤ tt;
+  long = refl;
+  fit = refl;
+  coded = refl;
+}
 
 pub returns : goal.returns
 unfolding words_at word_at

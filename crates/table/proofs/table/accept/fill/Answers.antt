@@ -3,26 +3,19 @@ use Rattle.std.proofs.lemmas.List.{take_all}
 use Rattle.table.proofs.Filling.{filled_same, filled_long, filled_sound, filled_coded}
 use Rattle.table.proofs.table.accept.fill.Goals as goal
 
-pub invariant-of-place : goal.invariant-of-place
-invariant-of-place g c =
+pub invariant_of-place : goal.invariant_of-place
+invariant_of-place g c =
     let code = g.K.Reading.code in
     let bs = c.args.bytes.now in
-    let f = c.args.figures in (
-      c.requires.1.0.few_switches,
-      (
-        c.requires.1.0.few_nodes,
-        (
-          c.requires.1.0.few_rules,
-          (
-            filled_long code bs f c.args.nodes c.args.rules c.requires.1.1 c.requires.0 c.requires.1.0,
-            (
-              filled_sound code bs f c.args.nodes c.args.rules c.requires.1.1 c.requires.0 c.requires.1.0,
-              (filled_coded code bs f c.args.nodes c.args.rules c.requires.1.1 c.requires.0 c.requires.1.0, tt),
-            ),
-          ),
-        ),
-      ),
-    )
+    let f = c.args.figures in
+    record {
+      few_switches = c.requires.1.0.few_switches;
+      few_nodes = c.requires.1.0.few_nodes;
+      few_rules = c.requires.1.0.few_rules;
+      long = filled_long code bs f c.args.nodes c.args.rules c.requires.1.1 c.requires.0 c.requires.1.0;
+      fit = filled_sound code bs f c.args.nodes c.args.rules c.requires.1.1 c.requires.0 c.requires.1.0;
+      coded = filled_coded code bs f c.args.nodes c.args.rules c.requires.1.1 c.requires.0 c.requires.1.0;
+    }
 
 pub returns : goal.returns
 returns g c =

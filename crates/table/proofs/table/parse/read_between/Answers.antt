@@ -2,9 +2,9 @@ use Rattle.std.proofs.Common.{rules}
 use Rattle.table.specs.Tables.{tested}
 use Rattle.table.proofs.table.parse.read_between.Goals as goal
 
-pub returns-in-err-word : goal.returns-in-err-word
+pub returns-in_err-word : goal.returns-in_err-word
 unfolding tested
-returns-in-err-word c = search rules
+returns-in_err-word c = search rules
 
 pub returns-then-word-low : goal.returns-then-word-low
 unfolding tested

@@ -2,9 +2,9 @@ use Rattle.std.proofs.Common.{rules}
 use Rattle.table.specs.Tables.{tested}
 use Rattle.table.proofs.table.parse.read_code.Goals as goal
 
-pub returns-in-err-word : goal.returns-in-err-word
+pub returns-in_err-word : goal.returns-in_err-word
 unfolding tested
-returns-in-err-word g c = search rules
+returns-in_err-word g c = search rules
 
 pub returns-then-not-native : goal.returns-then-not-native
 unfolding tested

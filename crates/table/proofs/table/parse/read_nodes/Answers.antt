@@ -6,11 +6,11 @@ use Rattle.table.specs.declared.node.Node.{Node}
 use Rattle.table.proofs.ArrayLoops.{filled_more, filled_all, items_stop, read_there}
 use Rattle.table.proofs.table.parse.read_nodes.Goals as goal
 
-pub returns-in-err-nodes : goal.returns-in-err-nodes
-returns-in-err-nodes c =
-    let p = err_from_is_err_and c.from-residual.result c.from-residual.ensures.1 in
+pub returns-in_err-nodes : goal.returns-in_err-nodes
+returns-in_err-nodes c =
+    let p = err_from_is_err_and c.from_residual.result c.from_residual.ensures.1 in
     let stopped = items_stop (node_at c.args.switches c.args.reader.now.bytes.now) node_size c.loop-i.reader.at c.loop-i.i c.args.count _ _ c.loop-i-test.true
-    (read_there (node_at c.args.switches) _ _ _ c.loop-i.i c.loop-i.nodes _ _ c.loop-i.invariant.0 c.read-node.ensures.value c.in-err-nodes.was) in
+    (read_there (node_at c.args.switches) _ _ _ c.loop-i.i c.loop-i.nodes _ _ c.loop-i.invariant.0 c.read_node.ensures.value c.in_err-nodes.was) in
     rw (p.1, p.2) (record { value = sym stopped ∙ c.loop-i.invariant.4; reader = search rules })
 
 pub loop-i-preserved : goal.loop-i-preserved

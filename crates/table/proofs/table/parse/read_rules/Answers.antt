@@ -6,11 +6,11 @@ use Rattle.table.specs.declared.node.Rule.{Rule}
 use Rattle.table.proofs.ArrayLoops.{filled_more, filled_all, items_stop, read_nth}
 use Rattle.table.proofs.table.parse.read_rules.Goals as goal
 
-pub returns-in-err-rules : goal.returns-in-err-rules
-returns-in-err-rules c =
-    let p = err_from_is_err_and c.from-residual.result c.from-residual.ensures.1 in
+pub returns-in_err-rules : goal.returns-in_err-rules
+returns-in_err-rules c =
+    let p = err_from_is_err_and c.from_residual.result c.from_residual.ensures.1 in
     let stopped = items_stop (λ at earlier. rule_at c.args.switches c.args.nodes.now c.args.reader.now.bytes.now at (length earlier)) rule_size c.loop-i.reader.at c.loop-i.i c.args.count _ _ c.loop-i-test.true
-    (read_nth (rule_at c.args.switches c.args.nodes.now) _ _ _ c.loop-i.i c.loop-i.rules _ _ (omega arith) c.loop-i.invariant.0 c.read-rule.ensures.value c.in-err-rules.was) in
+    (read_nth (rule_at c.args.switches c.args.nodes.now) _ _ _ c.loop-i.i c.loop-i.rules _ _ (omega arith) c.loop-i.invariant.0 c.read_rule.ensures.value c.in_err-rules.was) in
     rw (p.1, p.2) (record { value = sym stopped ∙ c.loop-i.invariant.4; reader = search rules })
 
 pub loop-i-preserved : goal.loop-i-preserved

@@ -7,12 +7,12 @@ use Rattle.table.proofs.ArrayLoops.{items_done}
 use Rattle.table.proofs.WordRuns.{words_turn, words_stop}
 use Rattle.table.proofs.table.parse.read_words.Goals as goal
 
-pub returns-in-err-field : goal.returns-in-err-field
-returns-in-err-field c =
-    let p = err_from_is_err_and c.from-residual.result c.from-residual.ensures.1 in
-    let reads : field TableLength c.args.reader.now.bytes.now c.loop-i.reader.at ≡ Err c.in-err-field.field-0.0 = search rules in
+pub returns-in_err-field : goal.returns-in_err-field
+returns-in_err-field c =
+    let p = err_from_is_err_and c.from_residual.result c.from_residual.ensures.1 in
+    let reads : field TableLength c.args.reader.now.bytes.now c.loop-i.reader.at ≡ Err c.in_err-field.field-0.0 = search rules in
     rw (p.1, p.2) (record {
-      value = words_stop _ c.args.reader.now.at c.loop-i.reader.at c.loop-i.-i c.args.count _ c.loop-i-test.true c.loop-i.invariant.2 c.loop-i.invariant.3 _ reads;
+      value = words_stop _ c.args.reader.now.at c.loop-i.reader.at c.loop-i._i c.args.count _ c.loop-i-test.true c.loop-i.invariant.2 c.loop-i.invariant.3 _ reads;
       reader = search rules;
     })
 
