@@ -120,7 +120,7 @@ impl Sight<'_> {
     // A lower node's reading.
     fn reading<K: Reading>(&self, a: usize) -> K
         requires { a < length self.now.words.now }
-        ensures { result ≡ reading (here (seen self.now) a) }
+        ensures { result ≡ K.reading (here (seen self.now) a) }
     {
         K::from_word(self.here(a))
     }
