@@ -12,8 +12,8 @@ pub loop-place-preserved : goal.loop-place-preserved
 loop-place-preserved g c = elim c.if-flag-ne0.branch [
   | then-flag-ne0 w ↦
       let more = used_more (g.P.Places.flags c.args.places.now) c.loop-place.place (λ e. w.if-flag-ne0.true (c.flag.ensures ∙ e)) in
-      (w.count_is ∙ ap (λ k. k + 1) c.loop-place.invariant.0 ∙ sym more, omega (arith, w.count_is, c.loop-place.invariant.1))
+      (w.count-is ∙ ap (λ k. k + 1) c.loop-place.invariant.0 ∙ sym more, omega (arith, w.count-is, c.loop-place.invariant.1))
   | else-flag-ne0 w ↦
       let same = used_same (g.P.Places.flags c.args.places.now) c.loop-place.place (sym c.flag.ensures ∙ w.if-flag-ne0.false) in
-      (w.count_is ∙ c.loop-place.invariant.0 ∙ sym same, omega (arith, w.count_is, c.loop-place.invariant.1))
+      (w.count-is ∙ c.loop-place.invariant.0 ∙ sym same, omega (arith, w.count-is, c.loop-place.invariant.1))
 ]

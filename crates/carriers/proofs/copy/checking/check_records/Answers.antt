@@ -7,10 +7,10 @@ use Rattle.carriers.proofs.copy.checking.check_records.Goals as goal
 pub returns-in_err-check_record : goal.returns-in_err-check_record
 returns-in_err-check_record c =
     let p = err_from_is_err_and c.from_residual.result c.from_residual.ensures.1 in
-    let reads : record_read c.args.nodes c.args.reader.now.bytes.now (record_offset c.args.nodes c.loop-j.-j) ≡ Err _ =
+    let reads : record_read c.args.nodes c.args.reader.now.bytes.now (record_offset c.args.nodes c.loop-j._j) ≡ Err _ =
     (λ i. record_read c.args.nodes (sym c.loop-j.invariant.0 i) (sym c.loop-j.invariant.2 i)) ∙ sym c.check_record.ensures.value ∙ c.in_err-check_record.was in
     rw (p.1, p.2) (record {
-      value = sym (each_stop (λ j. record_read c.args.nodes c.args.reader.now.bytes.now (record_offset c.args.nodes j)) c.loop-j.-j c.args.count _ c.loop-j-test.true c.loop-j.invariant.3 reads);
+      value = sym (each_stop (λ j. record_read c.args.nodes c.args.reader.now.bytes.now (record_offset c.args.nodes j)) c.loop-j._j c.args.count _ c.loop-j-test.true c.loop-j.invariant.3 reads);
       reader = search rules;
     })
 
@@ -19,21 +19,21 @@ loop-j-init c = (refl, c.requires.0, c.requires.1.0 ∙ omega arith, each_none (
 
 pub loop-j-preserved : goal.loop-j-preserved
 loop-j-preserved c =
-    let reads : record_read c.args.nodes c.args.reader.now.bytes.now (record_offset c.args.nodes c.loop-j.-j) ≡ Ok tt =
+    let reads : record_read c.args.nodes c.args.reader.now.bytes.now (record_offset c.args.nodes c.loop-j._j) ≡ Ok tt =
     (λ i. record_read c.args.nodes (sym c.loop-j.invariant.0 i) (sym c.loop-j.invariant.2 i)) ∙ sym c.check_record.ensures.value ∙ c.in_ok-check_record.was in
     let well : is_ok c.check_record.result ≡ true = ap is_ok c.in_ok-check_record.was in
     let moved : c.check_record.new.reader.at ≡ c.loop-j.reader.at + record_size c.args.nodes = c.check_record.ensures.reader.at well in (
       search rules,
       search rules,
-      omega (arith, add-mul c.loop-j.-j 1 (record_size c.args.nodes)),
-      each_more (λ j. record_read c.args.nodes c.args.reader.now.bytes.now (record_offset c.args.nodes j)) c.loop-j.-j _ c.loop-j.invariant.3 reads,
+      omega (arith, add-mul c.loop-j._j 1 (record_size c.args.nodes)),
+      each_more (λ j. record_read c.args.nodes c.args.reader.now.bytes.now (record_offset c.args.nodes j)) c.loop-j._j _ c.loop-j.invariant.3 reads,
     )
 
 pub returns : goal.returns
 returns c =
-    let end : c.loop-j.-j ≡ c.args.count = omega arith in
-    let rows : c.loop-j.-j * record_size c.args.nodes ≡ c.args.count * record_size c.args.nodes = ap (λ k. k * record_size c.args.nodes) end in
+    let end : c.loop-j._j ≡ c.args.count = omega arith in
+    let rows : c.loop-j._j * record_size c.args.nodes ≡ c.args.count * record_size c.args.nodes = ap (λ k. k * record_size c.args.nodes) end in
     record {
-      value = each_end (λ j. record_read c.args.nodes c.args.reader.now.bytes.now (record_offset c.args.nodes j)) c.loop-j.-j c.args.count c.loop-j-test.false c.loop-j.auto.-j-end c.loop-j.invariant.3;
+      value = each_end (λ j. record_read c.args.nodes c.args.reader.now.bytes.now (record_offset c.args.nodes j)) c.loop-j._j c.args.count c.loop-j-test.false c.loop-j.auto._j-end c.loop-j.invariant.3;
       reader = record { bytes = c.loop-j.invariant.0; short = c.loop-j.invariant.1 ∙ sym c.requires.0; at = λ w. omega arith };
     }

@@ -21,10 +21,12 @@ invariant_of-result-2 c =
     let size = length c.fill.new.self in
     let w = frame_place c.args.switches c.args.nodes in
     let zeros = c.fill.ensures.after (λ y e. e) in
-    let few_room : size / (4 + c.copy_length.result) * w ≤ size = subst (λ v. size / (4 + v) * w ≤ size) (sym c.copy_length.ensures) (div-mul-le_self size w) in (
-      (few_room, (λ _. few.0), (λ _. few.1)),
-      (numbered_zero _ _ (frame_flags_zero _ c.fill.new.self _ zeros), (distinct_zero _ _ (frame_flags_zero _ c.fill.new.self _ zeros), tt)),
-    )
+    let few_room : size / (4 + c.copy_length.result) * w ≤ size = subst (λ v. size / (4 + v) * w ≤ size) (sym c.copy_length.ensures) (div-mul-le_self size w) in
+    record {
+      fitting = (few_room, (λ _. few.0), (λ _. few.1));
+      numbered = numbered_zero _ _ (frame_flags_zero _ c.fill.new.self _ zeros);
+      distinct = distinct_zero _ _ (frame_flags_zero _ c.fill.new.self _ zeros);
+    }
 
 pub returns : goal.returns
 returns c =

@@ -21,10 +21,12 @@ invariant_of-result-2 c =
     let size = length c.fill.new.self in
     let w = word_place c.args.switches c.args.nodes in
     let zeros = c.fill.ensures.after (λ y e. e) in
-    let few_room : size / (1 + c.hand_length.result) * w ≤ size = subst (λ v. size / (1 + v) * w ≤ size) (sym c.hand_length.ensures) (div-mul-le_self size w) in (
-      few_room,
-      (numbered_zero _ _ (word_flags_zero _ c.fill.new.self _ zeros), (distinct_zero _ _ (word_flags_zero _ c.fill.new.self _ zeros), tt)),
-    )
+    let few_room : size / (1 + c.hand_length.result) * w ≤ size = subst (λ v. size / (1 + v) * w ≤ size) (sym c.hand_length.ensures) (div-mul-le_self size w) in
+    record {
+      fitting = few_room;
+      numbered = numbered_zero _ _ (word_flags_zero _ c.fill.new.self _ zeros);
+      distinct = distinct_zero _ _ (word_flags_zero _ c.fill.new.self _ zeros);
+    }
 
 pub returns : goal.returns
 returns c =
