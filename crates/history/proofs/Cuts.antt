@@ -10,30 +10,8 @@ use Rattle.history.specs.Calls.{Call, Fleet}
 use Rattle.history.specs.Orders.{Allowed, New, times}
 use Rattle.history.specs.Runs.{Before, step, chain, Precedes, Until, call_at, event, event_of, events_of}
 use Rattle.history.proofs.Clocks.{before_before, before_earlier, known, precedes_earlier, precedes_event, precedes_from, tells}
-use Rattle.history.proofs.Listing.{AlwaysAfter, Split, split, times_append, times_none, times_other, times_push, times_push_other, times_same}
+use Rattle.history.proofs.Listing.{AlwaysAfter, Cut, left, right, Split, cut, stands_from, split, times_append, times_none, times_other, times_push, times_push_other, times_same}
 use Rattle.history.proofs.Moments.{event_below, moment, of_event, one_switch, some_switch}
-
--- A list of two parts, cut at a place
-
-pub data Cut (a b front rest : List ℕ) (j : ℕ) : Type 0 where
-  left : (r : List ℕ) → a ≡ front ++ (j ∷ r) → Cut a b front rest j
-  right : (m : List ℕ) → front ≡ a ++ m → b ≡ m ++ (j ∷ rest) → Cut a b front rest j
-
-cons_parts : (x y : ℕ) (xs ys : List ℕ) → x ∷ xs ≡ y ∷ ys → (x ≡ y) × (xs ≡ ys)
-cons_parts x y xs ys e = (cc e, cc e)
-
-cut : (a b front rest : List ℕ) (j : ℕ) → a ++ b ≡ front ++ (j ∷ rest) → Cut a b front rest j
-cut [] b front rest j is = right front refl is
-cut (x ∷ a) b [] rest j is =
-    let p = cons_parts x j (a ++ b) rest is in
-    left a (ap (λ z. z ∷ a) p.0)
-cut (x ∷ a) b (y ∷ front) rest j is =
-    let p = cons_parts x y (a ++ b) (front ++ (j ∷ rest)) is in
-    more p.0 (cut a b front rest j p.1)
-  where
-    more : x ≡ y → Cut a b front rest j → Cut (x ∷ a) b (y ∷ front) rest j
-    more e (left r q) = left r (λ i. e i ∷ q i)
-    more e (right m q b-is) = right m (λ i. sym e i ∷ q i) b-is
 
 stands_left : (i j : ℕ) (a b : List ℕ) → times j b ≡ 0 → AlwaysAfter i j a → AlwaysAfter i j (a ++ b)
 stands_left i j a b none-there before front rest is = way (cut a b front rest j is)
@@ -291,7 +269,10 @@ module _ (k : WordKind) (t : Table) (f : Fleet) (calls : List Call) (is_sound : 
           inr (stands_right i j (e ∷ []) rest (times_other j e [] (λ q. both_ways _ silent (ap heard (sym q) ∙ e_heard)) ∙ times_none j) (inr (rest_stands i j less (precedes_from k t f calls is_sound new i j p) mute)))
 
   pub order_allowed : Allowed k t f calls order
-  order_allowed = record { once = once; keeps = keeps }
+  order_allowed = record {
+    once = once;
+    keeps = λ i j p. stands_from i j order (once j ∙ ap {B = ℕ} (λ b. cond b 1 0) (precedes_event k t f calls is_sound new i j p)) (keeps i j p);
+  }
 
   pub order_split : order ≡ front ++ (e ∷ rest)
   unfolding order

@@ -16,12 +16,20 @@ use Rattle.history.proofs.Carrier.{with_next, with_other}
 use Rattle.history.proofs.Clocks.{Hears, look_back}
 use Rattle.history.proofs.Copies.{From, Sent, from, send_carrier, sent_answer}
 use Rattle.history.proofs.Counting.{block_between, same_switch}
-use Rattle.history.proofs.Listing.{Split, split, times_append, times_none, times_push, times_push_other, times_same}
+use Rattle.history.proofs.Listing.{AlwaysAfter, Split, always_after, split, times_append, times_none, times_push, times_push_other, times_same}
 use Rattle.history.proofs.Memory as memory
 use Rattle.history.proofs.Moments.{Carries, unmoved, puts, retires, Kept, Moment, block, block_first, carrier, carrier_is, carries, does_makes, event_below, kept_new, kept_ran, moment, of_event, of_switch, one_switch, other_block, own_block, ran_push, some_switch}
 use Rattle.history.proofs.Sends.{number_in, order_sends, sends_append, sends_none, sends_one_more, sends_push}
 
 module _ (k : WordKind) (t : Table) (f : Fleet) (calls : List Call) (is_sound : sound t ≡ true) (new : New k t f) (order : List ℕ) (allowed : Allowed k t f calls order) where
+  -- an event stands once, so what precedes it stands before it wherever it stands
+  after_all : (i j : ℕ) → Precedes k t f calls i j → AlwaysAfter i j order
+  after_all i j p = always_after i j order (few (cases_Bool (event k t f calls j))) (allowed.keeps i j p)
+    where
+      few : (event k t f calls j ≡ true) ⊎ (event k t f calls j ≡ false) → times j order ≤ 1
+      few (inl is) = omega (arith, allowed.once j, ap {B = ℕ} (λ b. cond b 1 0) is)
+      few (inr none) = omega (arith, allowed.once j, ap {B = ℕ} (λ b. cond b 1 0) none)
+
   -- Parts of an allowed order
 
   -- what precedes an event of a front part stands in that part
@@ -29,7 +37,7 @@ module _ (k : WordKind) (t : Table) (f : Fleet) (calls : List Call) (is_sound : 
   closed pre rest is q i precedes some =
       let part = split i pre some in
       let whole : order ≡ part.front ++ (i ∷ (part.rest ++ rest)) = is ∙ ap (λ z. z ++ rest) part.is ∙ append_assoc part.front (i ∷ part.rest) rest in
-      let early = allowed.keeps q i precedes part.front (part.rest ++ rest) whole in
+      let early = after_all q i precedes part.front (part.rest ++ rest) whole in
       omega (arith, early, ap (times q) part.is, times_append q part.front (i ∷ part.rest))
 
   pub closed_before : (pre rest : List ℕ) → order ≡ pre ++ rest → (q i : ℕ) → Before k t f calls q i → 1 ≤ times i pre → 1 ≤ times q pre
@@ -51,8 +59,8 @@ module _ (k : WordKind) (t : Table) (f : Fleet) (calls : List Call) (is_sound : 
 
     -- what happens before the next event has been
     pub been : (q : ℕ) → Before k t f calls q e → 1 ≤ times q pre
-    been q (step x y p) = allowed.keeps q e p pre rest is
-    been q (chain x j y b p) = closed_before pre (e ∷ rest) is q j b (allowed.keeps j e p pre rest is)
+    been q (step x y p) = after_all q e p pre rest is
+    been q (chain x j y b p) = closed_before pre (e ∷ rest) is q j b (after_all j e p pre rest is)
 
   module _ (g : Fleet) (new_g : New k t g) (space : sends k t f calls order ≤ g.carrier.capacity) where
     abbrev again : ℕ → Call
