@@ -1,7 +1,7 @@
 -- The copies held in places, under a put, a fetch and a retire. Assumes nothing.
 use Rattle.std.proofs.Common.{◌≡◌, ℕ, zero, suc, ◌+◌, ◌-◌, ◌<◌, ◌≤◌, Bool, true, false, cond, eqb, ltb, ◌⊎◌, List, [], ◌∷◌, ◌++◌, length, Some, None, Option, sym, refl, ap, ◌∙◌, subst, inl, inr, arith}
 use Rattle.std.proofs.lemmas.Bool.{cases_Bool, cases_eq, cases_lt, cond-true, cond-false, eq-eqb, ne_eqb, eqb-true, eqb-false, ltb-true, ltb-false, lt-ltb, le-ltb}
-use Rattle.std.specs.List.{AllByRecursion as All}
+use Rattle.std.specs.List.{AllByRecursion}
 use Rattle.carriers.specs.Meanings.{Held, copy_under, copies_but}
 use Rattle.carriers.specs.Stores.{Others}
 use Rattle.carriers.specs.Places.{inserted_by_number, with_place, held_below, used_below, or_this, lowest_below, Numbered, Distinct}
@@ -32,7 +32,7 @@ length_inserted h (x ∷ xs) = elim (cases_Bool (ltb x.0 h.0)) [
   | inr e ↦ rw e (omega arith)
 ]
 
-inserted_all : (P : Held → Type 0) (h : Held) (hs : List Held) → P h → All P hs → All P (inserted_by_number h hs)
+inserted_all : (P : Held → Type 0) (h : Held) (hs : List Held) → P h → AllByRecursion P hs → AllByRecursion P (inserted_by_number h hs)
 unfolding inserted_by_number
 inserted_all P h [] p a = (p, tt)
 inserted_all P h (x ∷ xs) p a = elim (cases_Bool (ltb x.0 h.0)) [
@@ -40,12 +40,12 @@ inserted_all P h (x ∷ xs) p a = elim (cases_Bool (ltb x.0 h.0)) [
   | inr e ↦ rw e (p, a)
 ]
 
-inserted_last : (z : ℕ) (c : List ℕ) (hs : List Held) → All (λ h. h.0 < z) hs → inserted_by_number (z, c) hs ≡ hs ++ (z, c) ∷ []
+inserted_last : (z : ℕ) (c : List ℕ) (hs : List Held) → AllByRecursion (λ h. h.0 < z) hs → inserted_by_number (z, c) hs ≡ hs ++ (z, c) ∷ []
 unfolding inserted_by_number
 inserted_last z c [] a = refl
 inserted_last z c (x ∷ xs) a = cond-true _ _ _ (lt-ltb x.0 z a.0) ∙ ap (λ r. x ∷ r) (inserted_last z c xs a.1)
 
-inserted_first : (z : ℕ) (c : List ℕ) (hs : List Held) → All (λ h. z ≤ h.0) hs → inserted_by_number (z, c) hs ≡ (z, c) ∷ hs
+inserted_first : (z : ℕ) (c : List ℕ) (hs : List Held) → AllByRecursion (λ h. z ≤ h.0) hs → inserted_by_number (z, c) hs ≡ (z, c) ∷ hs
 unfolding inserted_by_number
 inserted_first z c [] a = refl
 inserted_first z c (x ∷ xs) a = cond-false _ _ _ (le-ltb x.0 z a.0)
@@ -61,9 +61,9 @@ inserted_push y z c d (x ∷ xs) lt = elim (cases_Bool (ltb x.0 y)) [
 -- the numbers do not fall
 Ordered : List Held → Type 0
 Ordered [] = Unit {0}
-Ordered (h ∷ hs) = All (λ k. h.0 ≤ k.0) hs × Ordered hs
+Ordered (h ∷ hs) = AllByRecursion (λ k. h.0 ≤ k.0) hs × Ordered hs
 
-at_least : (y z : ℕ) (hs : List Held) → z ≤ y → All (λ h. y ≤ h.0) hs → All (λ h. z ≤ h.0) hs
+at_least : (y z : ℕ) (hs : List Held) → z ≤ y → AllByRecursion (λ h. y ≤ h.0) hs → AllByRecursion (λ h. z ≤ h.0) hs
 at_least y z [] le a = tt
 at_least y z (h ∷ hs) le a = (omega (arith, a.0), at_least y z hs le a.1)
 
@@ -75,7 +75,7 @@ inserted_ordered h (x ∷ xs) o = elim (cases_Bool (ltb x.0 h.0)) [
   | inr e ↦ let le : h.0 ≤ x.0 = ltb-false _ _ e in rw e ((le, at_least x.0 h.0 xs le o.0), o)
 ]
 
-but_all : (P : Held → Type 0) (x : ℕ) (hs : List Held) → All P hs → All P (copies_but x hs)
+but_all : (P : Held → Type 0) (x : ℕ) (hs : List Held) → AllByRecursion P hs → AllByRecursion P (copies_but x hs)
 unfolding copies_but
 but_all P x [] a = tt
 but_all P x (h ∷ hs) a = elim (cases_Bool (eqb h.0 x)) [
@@ -101,7 +101,7 @@ but_other x z c (h ∷ hs) ne o = elim (cases_Bool (ltb h.0 z)) [
   ]
   | inr e ↦
       let le : z ≤ h.0 = ltb-false _ _ e in
-      let all : All (λ k. z ≤ k.0) (copies_but x (h ∷ hs)) = but_all (λ k. z ≤ k.0) x (h ∷ hs) (le, at_least h.0 z hs le o.0) in
+      let all : AllByRecursion (λ k. z ≤ k.0) (copies_but x (h ∷ hs)) = but_all (λ k. z ≤ k.0) x (h ∷ hs) (le, at_least h.0 z hs le o.0) in
       rw e (cond-false _ _ _ (ne_eqb z x ne) ∙ sym (inserted_first z c (copies_but x (h ∷ hs)) all))
 ]
 
@@ -196,7 +196,7 @@ held_ordered flag copy (suc k) = elim (cases_Bool (eqb (flag k) 0)) [
   | inr e ↦ rw e (inserted_ordered _ _ (held_ordered flag copy k))
 ]
 
-held_numbered : (flag : ℕ → ℕ) (copy : ℕ → List ℕ) (k next : ℕ) → Numbered flag k next → All (λ h. h.0 < next) (held_below flag copy k)
+held_numbered : (flag : ℕ → ℕ) (copy : ℕ → List ℕ) (k next : ℕ) → Numbered flag k next → AllByRecursion (λ h. h.0 < next) (held_below flag copy k)
 unfolding held_below
 held_numbered flag copy zero next n = tt
 held_numbered flag copy (suc k) next n = elim (cases_Bool (eqb (flag k) 0)) [

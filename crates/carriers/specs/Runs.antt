@@ -1,6 +1,6 @@
 -- Carriers that are given the same calls. Assumes nothing.
 use Rattle.std.specs.Prelude.{◌≡◌, ℕ, ◌<◌, List, [], ◌∷◌, length, Result}
-use Rattle.std.specs.List.{AllByRecursion as All}
+use Rattle.std.specs.List.{AllByRecursion}
 use Rattle.table.specs.Worked.{worked_table}
 use Rattle.table.specs.declared.fault.Fault.{Fault}
 use Rattle.step.specs.Records.{hand_length}
@@ -36,10 +36,10 @@ CarriersAgree = (a a' b b' : Meaning) (cs : List Call) (xs xs' : List Answer) �
 -- the numbers of the held copies rise, and are below next
 abbrev pub Rising : List Held → Type 0
 Rising [] = Unit {0}
-Rising (h ∷ hs) = All (λ k. h.0 < k.0) hs × Rising hs
+Rising (h ∷ hs) = AllByRecursion (λ k. h.0 < k.0) hs × Rising hs
 
 abbrev pub InOrder : Meaning → Type 0
-InOrder c = Rising c.held × All (λ h. h.0 < c.next) c.held
+InOrder c = Rising c.held × AllByRecursion (λ h. h.0 < c.next) c.held
 
 -- Every call keeps them so; a new carrier holds none.
 abbrev pub StaysInOrder : Type 0

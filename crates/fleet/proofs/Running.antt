@@ -3,7 +3,7 @@ use Rattle.std.proofs.Common.{◌≡◌, ℕ, zero, suc, ◌+◌, ◌<◌, ◌�
 use Rattle.std.proofs.ByRecursion.{All-push}
 use Rattle.std.proofs.lemmas.List.{append_assoc, append-nil, drop_all, drop_more, length-map, length-take-le, map_more, set_at, take_all}
 use Rattle.std.proofs.lemmas.Bool.{eq-eqb, ne_eqb}
-use Rattle.std.specs.List.{AllByRecursion as All}
+use Rattle.std.specs.List.{AllByRecursion}
 use Rattle.table.specs.Tables.{Table}
 use Rattle.table.specs.Wire.{refuse}
 use Rattle.table.specs.declared.fault.Fault.{Fault}
@@ -175,8 +175,8 @@ module _ (code : ℕ) (k : WordKind) (t : Table) (live : Bool) (before : Fleet) 
         }
 
 -- the words of the first calls, and of one more
-pub words_more : (calls : List Call) (i : ℕ) (d : Call) → i < length calls → All WordCall (listed (take i calls)) → WordCall (call_of (get_or calls i d)) → All WordCall (listed (take (i + 1) calls))
+pub words_more : (calls : List Call) (i : ℕ) (d : Call) → i < length calls → AllByRecursion WordCall (listed (take i calls)) → WordCall (call_of (get_or calls i d)) → AllByRecursion WordCall (listed (take (i + 1) calls))
 words_more calls i d below before word = rw (map_more call_of calls i d below) (All-push WordCall (listed (take i calls)) (call_of (get_or calls i d)) before word)
 
-pub words_all : (calls : List Call) (i : ℕ) → length calls ≤ i → All WordCall (listed (take i calls)) → All WordCall (listed calls)
+pub words_all : (calls : List Call) (i : ℕ) → length calls ≤ i → AllByRecursion WordCall (listed (take i calls)) → AllByRecursion WordCall (listed calls)
 words_all calls i over words = rw (take_all i calls over) at words

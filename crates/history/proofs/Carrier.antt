@@ -2,12 +2,12 @@
 use Rattle.std.proofs.Common.{◌≡◌, ℕ, ◌+◌, ◌<◌, ◌≤◌, cond, eqb, ◌≢◌, List, [], ◌∷◌, ◌++◌, Some, None, Option, sym, refl, ap, ◌∙◌, inl, inr, arith}
 use Rattle.std.proofs.ByRecursion.{All-push, All-weaker}
 use Rattle.std.proofs.lemmas.Bool.{cases_Bool, cond-true, cond-false, eq-eqb, ne_eqb, eqb-true}
-use Rattle.std.specs.List.{AllByRecursion as All}
+use Rattle.std.specs.List.{AllByRecursion}
 use Rattle.carriers.specs.Meanings.{Held, Meaning, copies_but, copy_under, with_copy, without_copy}
 
 -- every number that is held is below next
 abbrev pub Below : ℕ → List Held → Type 0
-Below next held = All (λ h. h.0 < next) held
+Below next held = AllByRecursion (λ h. h.0 < next) held
 
 -- One more copy
 
@@ -48,7 +48,7 @@ under_but_other x y (h ∷ hs) differ = elim (cases_Bool (eqb h.0 y)) [
   | inr e ↦ ap (copy_under x) (cond-false _ _ _ e) ∙ ap (λ r. cond (eqb h.0 x) (Some h.1) r) (under_but_other x y hs differ)
 ]
 
-pub all_but : (P : Held → Type 0) (x : ℕ) (held : List Held) → All P held → All P (copies_but x held)
+pub all_but : (P : Held → Type 0) (x : ℕ) (held : List Held) → AllByRecursion P held → AllByRecursion P (copies_but x held)
 unfolding copies_but
 all_but P x [] a = tt
 all_but P x (h ∷ hs) a = elim (cases_Bool (eqb h.0 x)) [
@@ -57,7 +57,7 @@ all_but P x (h ∷ hs) a = elim (cases_Bool (eqb h.0 x)) [
 ]
 
 -- what holds of every copy holds of the one under a number
-pub all_under : (P : List ℕ → Type 0) (x : ℕ) (held : List Held) → All (λ h. P h.1) held → (copy : List ℕ) → copy_under x held ≡ Some copy → P copy
+pub all_under : (P : List ℕ → Type 0) (x : ℕ) (held : List Held) → AllByRecursion (λ h. P h.1) held → (copy : List ℕ) → copy_under x held ≡ Some copy → P copy
 unfolding copy_under
 all_under P x [] a copy found = let z : ◌≡◌ {A = ℕ} 0 1 = cc found in absurd (omega arith)
 all_under P x (h ∷ hs) a copy found = elim (cases_Bool (eqb h.0 x)) [

@@ -2,7 +2,7 @@
 use Rattle.std.proofs.Common.{◌≡◌, ℕ, zero, suc, ◌+◌, ◌<◌, ◌≤◌, Bool, true, false, cond, ◌&&◌, eqb, ◌≢◌, ◌⊎◌, List, length, get_or, sym, refl, ap, ◌∙◌, subst, inl, inr, arith}
 use mathlib.Core.Path.{fun_ext}
 use Rattle.std.proofs.lemmas.Bool.{and_cases, and_from, and_left, and_parts, and_right, cases_Bool, cases_eq, cond-false, cond-true, eq-eqb, eqb-true, ne_eqb}
-use Rattle.std.specs.List.{AllByRecursion as All}
+use Rattle.std.specs.List.{AllByRecursion}
 use Rattle.table.specs.Tables.{Table, sound}
 use Rattle.step.specs.Logic.{Kind, Lawful, Values, Meaning, after, none, on_words}
 use Rattle.step.specs.Nodes.{WordKind}
@@ -50,7 +50,7 @@ module _ (k : WordKind) (t : Table) (f : Fleet) (calls : List Call) (is_sound : 
           let p = and_parts _ _ made in
           absurd (differ (same_number k t f calls s i e p.0 nth.is (omega (arith, eqb-true _ _ p.1, nth.place))))
 
-module _ {R : Type 0} (k : Kind R) (held : R → Type 0) (law : Lawful k held) (t : Table) (is_sound : sound t ≡ true) (f : Fleet) (new : New (on_words k) t f) (calls : List Call) (words : All WordCall calls) where
+module _ {R : Type 0} (k : Kind R) (held : R → Type 0) (law : Lawful k held) (t : Table) (is_sound : sound t ≡ true) (f : Fleet) (new : New (on_words k) t f) (calls : List Call) (words : AllByRecursion WordCall calls) where
   abbrev the_record : ℕ → ℕ → List ℕ
   the_record s n = own_record (on_words k) t f calls is_sound new s n (length calls)
 

@@ -3,7 +3,7 @@ use Rattle.std.proofs.Common.{◌≡◌, ℕ, zero, suc, ◌+◌, ◌^◌, ◌<�
 use mathlib.Core.Path.{fun_ext}
 use Rattle.std.proofs.lemmas.List.{get_or-set_other, get_or-set_same, length-drop, length-take-le}
 use Rattle.std.proofs.lemmas.Bool.{and_cases, and_parts, both_ways, cases_Bool, cases_eq, cond-false, cond-true, eq-eqb, eqb-true, ltb-true, ne_eqb, true≢false}
-use Rattle.std.specs.List.{AllByRecursion as All}
+use Rattle.std.specs.List.{AllByRecursion}
 use Rattle.table.specs.Limits.{register_count}
 use Rattle.table.specs.Tables.{Table, sound}
 use Rattle.step.proofs.OpeningMeaning.{opened_registers, opening_meaning}
@@ -116,7 +116,7 @@ module _ {R : Type 0} (k : Kind R) (held : R → Type 0) (law : Lawful k held) (
       (values_in k (first (on_words k) t f calls is_sound new s))
       (opening_meaning k held law t is_sound s below s below)
 
-  module _ (f : Fleet) (new : New (on_words k) t f) (calls : List Call) (words : All WordCall calls) where
+  module _ (f : Fleet) (new : New (on_words k) t f) (calls : List Call) (words : AllByRecursion WordCall calls) where
     abbrev record_at : ℕ → ℕ → ℕ → List ℕ
     record_at i s j = known (on_words k) t f calls is_sound new i s j
 

@@ -3,7 +3,7 @@ use Rattle.std.proofs.Common.{◌≡◌, ℕ, zero, suc, ◌+◌, ◌*◌, ◌^�
 use Rattle.std.proofs.ByRecursion.{All-push}
 use Rattle.std.proofs.lemmas.List.{take_all, take_more}
 use Rattle.std.proofs.lemmas.Bool.{and_parts, and_from, and_left, and_right, both_ways, cases_Bool, cases_lt, cases_eq, eqb-false, eqb-true, eq-eqb, le-ltb, lt-ltb, ltb-true, ne_eqb}
-use Rattle.std.specs.List.{AllByRecursion as All}
+use Rattle.std.specs.List.{AllByRecursion}
 use Rattle.table.specs.Limits.{register_count}
 use Rattle.table.specs.Tables.{Table, sound}
 use Rattle.step.specs.Nodes.{WordKind}
@@ -35,7 +35,7 @@ module _ (k : WordKind) (t : Table) where
   pub record Kept (g : Fleet) : Type 0 where
     pub long : length g.memory ≡ t.switches * block_size k t
     pub numbered : Below g.carrier.next g.carrier.held
-    pub copies : All (λ (h : Held). length h.1 ≡ hand_length t.switches (length t.nodes)) g.carrier.held
+    pub copies : AllByRecursion (λ (h : Held). length h.1 ≡ hand_length t.switches (length t.nodes)) g.carrier.held
 
   module _ (g : Fleet) (kept : Kept g) where
     room : t.switches * block_size k t ≤ length g.memory
@@ -78,7 +78,7 @@ module _ (k : WordKind) (t : Table) where
         record {
           long = kept_done (set_call s r w) s d.0 d.1 d.2;
           numbered = subst (λ z. Below z.next z.held) (sym is) kept.numbered;
-          copies = subst (λ z. All (λ (h : Held). length h.1 ≡ hand_length t.switches (length t.nodes)) z.held) (sym is) kept.copies;
+          copies = subst (λ z. AllByRecursion (λ (h : Held). length h.1 ≡ hand_length t.switches (length t.nodes)) z.held) (sym is) kept.copies;
         }
     kept_ok (send_call s) ok =
         let d = done k t g (send_call s) s ok (eq-eqb s s refl) in
@@ -88,7 +88,7 @@ module _ (k : WordKind) (t : Table) where
         record {
           long = kept_done (send_call s) s d.0 d.1 d.2;
           numbered = subst (λ z. Below z.next z.held) (sym is) (with_below g.carrier kept.numbered copy);
-          copies = subst (λ z. All (λ (h : Held). length h.1 ≡ hand_length t.switches (length t.nodes)) z.held) (sym is) (All-push (λ (h : Held). length h.1 ≡ hand_length t.switches (length t.nodes)) g.carrier.held (g.carrier.next, copy) kept.copies long);
+          copies = subst (λ z. AllByRecursion (λ (h : Held). length h.1 ≡ hand_length t.switches (length t.nodes)) z.held) (sym is) (All-push (λ (h : Held). length h.1 ≡ hand_length t.switches (length t.nodes)) g.carrier.held (g.carrier.next, copy) kept.copies long);
         }
     kept_ok (receive_call s x) ok =
         let d = done k t g (receive_call s x) s ok (eq-eqb s s refl) in
@@ -96,14 +96,14 @@ module _ (k : WordKind) (t : Table) where
         record {
           long = kept_done (receive_call s x) s d.0 d.1 d.2;
           numbered = subst (λ z. Below z.next z.held) (sym is) kept.numbered;
-          copies = subst (λ z. All (λ (h : Held). length h.1 ≡ hand_length t.switches (length t.nodes)) z.held) (sym is) kept.copies;
+          copies = subst (λ z. AllByRecursion (λ (h : Held). length h.1 ≡ hand_length t.switches (length t.nodes)) z.held) (sym is) kept.copies;
         }
     kept_ok (retire_call x) ok =
         let is = called_ok k t g (retire_call x) (ok_none _ _ ok) in
         record {
           long = ap (λ z. length z.memory) is ∙ kept.long;
           numbered = subst (λ z. Below z.carrier.next z.carrier.held) (sym is) (without_below g.carrier kept.numbered x);
-          copies = subst (λ z. All (λ (h : Held). length h.1 ≡ hand_length t.switches (length t.nodes)) z.carrier.held) (sym is) (all_but (λ (h : Held). length h.1 ≡ hand_length t.switches (length t.nodes)) x g.carrier.held kept.copies);
+          copies = subst (λ z. AllByRecursion (λ (h : Held). length h.1 ≡ hand_length t.switches (length t.nodes)) z.carrier.held) (sym is) (all_but (λ (h : Held). length h.1 ≡ hand_length t.switches (length t.nodes)) x g.carrier.held kept.copies);
         }
 
     pub kept_called : (c : Call) → Kept (called k t g c)
@@ -185,7 +185,7 @@ module _ (k : WordKind) (t : Table) where
   kept_new is_sound f new = record {
     long = ap length new.memory ∙ memory.first_long k t is_sound;
     numbered = subst (Below f.carrier.next) (sym new.held) tt;
-    copies = subst (All (λ (h : Held). length h.1 ≡ hand_length t.switches (length t.nodes))) (sym new.held) tt;
+    copies = subst (AllByRecursion (λ (h : Held). length h.1 ≡ hand_length t.switches (length t.nodes))) (sym new.held) tt;
   }
 
 -- The moments of a run

@@ -1,6 +1,6 @@
 -- The law of a list of calls on a new fleet, for every allowed order. Assumes nothing.
 use Rattle.std.proofs.Common.{◌≡◌, ℕ, suc, ◌<◌, ◌≤◌, true, List, ◌∷◌, ◌++◌, length, Result, sym, ap, ◌∙◌}
-use Rattle.std.specs.List.{AllByRecursion as All}
+use Rattle.std.specs.List.{AllByRecursion}
 use Rattle.table.specs.Tables.{Table, sound}
 use Rattle.table.specs.declared.fault.Fault.{Fault}
 use Rattle.step.specs.Logic.{Kind, Lawful, on_words}
@@ -15,7 +15,7 @@ use Rattle.history.proofs.Histories.{history}
 use Rattle.history.proofs.Moments.{event_below, some_switch}
 use Rattle.history.proofs.Verdicts.{counts, knows_is, numbers, verdict}
 
-module _ {R : Type 0} (k : Kind R) (held : R → Type 0) (law : Lawful k held) (t : Table) (is_sound : sound t ≡ true) (f : Fleet) (new : New (on_words k) t f) (calls : List Call) (words : All WordCall calls)
+module _ {R : Type 0} (k : Kind R) (held : R → Type 0) (law : Lawful k held) (t : Table) (is_sound : sound t ≡ true) (f : Fleet) (new : New (on_words k) t f) (calls : List Call) (words : AllByRecursion WordCall calls)
     (said : ℕ → Result Reply Fault) (said_is : (i : ℕ) → i < length calls → said i ≡ answer_at (on_words k) t f calls i) (left : List ℕ) (left_is : left ≡ (ran (on_words k) t f calls).memory) where
   same_everywhere : AnsweredSame k t f calls said left
   same_everywhere = record {

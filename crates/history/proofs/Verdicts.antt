@@ -2,7 +2,7 @@
 use Rattle.std.proofs.Common.{◌≡◌, ℕ, zero, suc, ◌+◌, ◌-◌, ◌<◌, ◌≤◌, Bool, true, false, cond, not, ◌&&◌, eqb, ltb, ◌≢◌, ◌⊎◌, ◌↔◌, List, [], ◌∷◌, length, get_or, drop, Result, sym, refl, ap, ◌∙◌, subst, inl, inr, add-one, arith}
 use mathlib.Core.Path.{fun_ext}
 use Rattle.std.proofs.lemmas.Bool.{and_cases, and_from, and_left, and_parts, both_ways, cases_Bool, cases_eq, cond-false, cond-true, eq-eqb, eqb-true, ltb-true, ne_eqb}
-use Rattle.std.specs.List.{AllByRecursion as All}
+use Rattle.std.specs.List.{AllByRecursion}
 use Rattle.readings.specs.Ports.{has}
 use Rattle.table.proofs.Soundness.{sound_parts}
 use Rattle.table.specs.Nodes.{is_truth, rule_fits, truth_node}
@@ -92,7 +92,7 @@ module _ (k : WordKind) (t : Table) (f : Fleet) (calls : List Call) (is_sound : 
       way (never none_is many) = at_first many (ap (λ z. record_of (length t.nodes) z s) (block_between k t f calls is_sound new s 0 e (omega arith) (λ q from less. none_is q less) ∙ block_first k t f calls is_sound new s below))
       way (last p less is none_is many) = at_last p less is many (ap (λ z. record_of (length t.nodes) z s) (block_between k t f calls is_sound new s (suc p) e less (λ q from less'. none_is q from less')))
 
-module _ {R : Type 0} (k : Kind R) (held : R → Type 0) (law : Lawful k held) (t : Table) (is_sound : sound t ≡ true) (f : Fleet) (new : New (on_words k) t f) (calls : List Call) (words : All WordCall calls) where
+module _ {R : Type 0} (k : Kind R) (held : R → Type 0) (law : Lawful k held) (t : Table) (is_sound : sound t ≡ true) (f : Fleet) (new : New (on_words k) t f) (calls : List Call) (words : AllByRecursion WordCall calls) where
   abbrev rec : ℕ → ℕ → ℕ → List ℕ
   rec i s j = known (on_words k) t f calls is_sound new i s j
 

@@ -4,7 +4,7 @@ use lib.Seq.{paste}
 use Rattle.std.proofs.ByRecursion.{All-append, All-drop, All-push, All-set, All-take, All-get_or}
 use Rattle.std.proofs.lemmas.List.{length-replicate}
 use Rattle.std.proofs.lemmas.Bool.{cases_Bool, cond_both, eq-eqb}
-use Rattle.std.specs.List.{AllByRecursion as All}
+use Rattle.std.specs.List.{AllByRecursion}
 use Rattle.table.proofs.Soundness.{sound_limits, sound_parts}
 use Rattle.table.specs.Tables.{Table, sound}
 use Rattle.step.proofs.Obeying.{word_small}
@@ -42,7 +42,7 @@ taken_words m s copy block (suc j) one two =
     (λ _. all_paste (taken m s copy block j) (record_start m j) (record_of m copy j) (record_length m) before (part_words (record_start m j) (record_length m) copy one))
     (λ _. before)
 
-word_at : (calls : List Call) (i : ℕ) → All WordCall calls → WordCall (get_or calls i no_call)
+word_at : (calls : List Call) (i : ℕ) → AllByRecursion WordCall calls → WordCall (get_or calls i no_call)
 word_at [] i words = tt
 word_at (c ∷ cs) zero words = words.0
 word_at (c ∷ cs) (suc i) words = word_at cs i words.1
@@ -72,7 +72,7 @@ module _ {R : Type 0} (k : Kind R) (held : R → Type 0) (law : Lawful k held) (
 
   pub record Worded (g : Fleet) : Type 0 where
     pub memory : Words g.memory
-    pub copies : All (λ (h : Held). Words h.1) g.carrier.held
+    pub copies : AllByRecursion (λ (h : Held). Words h.1) g.carrier.held
 
   module _ (g : Fleet) (kept : Kept (on_words k) t g) (worded : Worded g) where
     does_word : (c : Call) → WordCall c → (s : ℕ) (a : Act) → Does (on_words k) t g c s a → WordAct a
@@ -92,7 +92,7 @@ module _ {R : Type 0} (k : Kind R) (held : R → Type 0) (law : Lawful k held) (
     worded_ok : (c : Call) → WordCall c → is_ok (answer (on_words k) t g c) ≡ true → Worded (called (on_words k) t g c)
     worded_ok (set_call s r w) word ok = record {
       memory = memory_words (set_call s r w) word s (done (on_words k) t g (set_call s r w) s ok (eq-eqb s s refl));
-      copies = subst (λ z. All (λ (h : Held). Words h.1) z.carrier.held) (sym (called_ok (on_words k) t g (set_call s r w) (ok_none _ _ ok))) worded.copies;
+      copies = subst (λ z. AllByRecursion (λ (h : Held). Words h.1) z.carrier.held) (sym (called_ok (on_words k) t g (set_call s r w) (ok_none _ _ ok))) worded.copies;
     }
     worded_ok (send_call s) word ok =
         let d = done (on_words k) t g (send_call s) s ok (eq-eqb s s refl) in
@@ -101,7 +101,7 @@ module _ {R : Type 0} (k : Kind R) (held : R → Type 0) (law : Lawful k held) (
         let sender : s < 2 ^ 32 = omega (arith, d.2.below, few) in
         record {
           memory = memory_words (send_call s) word s d;
-          copies = subst (λ z. All (λ (h : Held). Words h.1) z.carrier.held) (sym (called_ok (on_words k) t g (send_call s) (ok_none _ _ ok)))
+          copies = subst (λ z. AllByRecursion (λ (h : Held). Words h.1) z.carrier.held) (sym (called_ok (on_words k) t g (send_call s) (ok_none _ _ ok)))
               (All-push (λ (h : Held). Words h.1) g.carrier.held (g.carrier.next, copy_of (on_words k) t s (stepped (on_words k) t g s send)) worded.copies
               (sender, All-take (λ w. w < 2 ^ 32) (records_length t.switches (length t.nodes)) (stepped (on_words k) t g s send) new));
         }
@@ -110,13 +110,13 @@ module _ {R : Type 0} (k : Kind R) (held : R → Type 0) (law : Lawful k held) (
         few = omega (arith, (sound_limits t (sound_parts t is_sound)).few_switches)
     worded_ok (receive_call s x) word ok = record {
       memory = memory_words (receive_call s x) word s (done (on_words k) t g (receive_call s x) s ok (eq-eqb s s refl));
-      copies = subst (λ z. All (λ (h : Held). Words h.1) z.carrier.held) (sym (called_ok (on_words k) t g (receive_call s x) (ok_none _ _ ok))) worded.copies;
+      copies = subst (λ z. AllByRecursion (λ (h : Held). Words h.1) z.carrier.held) (sym (called_ok (on_words k) t g (receive_call s x) (ok_none _ _ ok))) worded.copies;
     }
     worded_ok (retire_call x) word ok =
         let is = called_ok (on_words k) t g (retire_call x) (ok_none _ _ ok) in
         record {
           memory = subst (λ z. Words z.memory) (sym is) worded.memory;
-          copies = subst (λ z. All (λ (h : Held). Words h.1) z.carrier.held) (sym is) (all_but (λ (h : Held). Words h.1) x g.carrier.held worded.copies);
+          copies = subst (λ z. AllByRecursion (λ (h : Held). Words h.1) z.carrier.held) (sym is) (all_but (λ (h : Held). Words h.1) x g.carrier.held worded.copies);
         }
 
     worded_called : (c : Call) → WordCall c → Worded (called (on_words k) t g c)
@@ -125,7 +125,7 @@ module _ {R : Type 0} (k : Kind R) (held : R → Type 0) (law : Lawful k held) (
       | inr bad ↦ subst Worded (sym (called_refused (on_words k) t g c bad)) worded
     ]
 
-  worded_ran : (g : Fleet) → Kept (on_words k) t g → Worded g → (cs : List Call) → All WordCall cs → Worded (ran (on_words k) t g cs)
+  worded_ran : (g : Fleet) → Kept (on_words k) t g → Worded g → (cs : List Call) → AllByRecursion WordCall cs → Worded (ran (on_words k) t g cs)
   unfolding ran
   worded_ran g kept worded [] words = worded
   worded_ran g kept worded (c ∷ cs) words =
@@ -139,10 +139,10 @@ module _ {R : Type 0} (k : Kind R) (held : R → Type 0) (law : Lawful k held) (
   worded_new : (f : Fleet) → New (on_words k) t f → Worded f
   worded_new f new = record {
     memory = subst Words (sym new.memory) (first_words t.switches);
-    copies = subst (All (λ (h : Held). Words h.1)) (sym new.held) tt;
+    copies = subst (AllByRecursion (λ (h : Held). Words h.1)) (sym new.held) tt;
   }
 
-  module _ (f : Fleet) (new : New (on_words k) t f) (calls : List Call) (words : All WordCall calls) where
+  module _ (f : Fleet) (new : New (on_words k) t f) (calls : List Call) (words : AllByRecursion WordCall calls) where
     worded_at : (i : ℕ) → Worded (fleet_at (on_words k) t f calls i)
     unfolding fleet_at
     worded_at i = worded_ran f (kept_new (on_words k) t is_sound f new) (worded_new f new) (take i calls) (All-take WordCall i calls words)

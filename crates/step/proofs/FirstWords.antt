@@ -3,7 +3,7 @@ use Rattle.std.proofs.Common.{◌≡◌, ℕ, zero, suc, ◌+◌, ◌^◌, ◌<�
 use Rattle.std.proofs.ByRecursion.{All-set, All-take, All-drop}
 use Rattle.std.proofs.lemmas.List.{get_or-set_same, get_or-set_other}
 use Rattle.std.proofs.lemmas.Bool.{cases_eq, cases_order}
-use Rattle.std.specs.List.{AllByRecursion as All}
+use Rattle.std.specs.List.{AllByRecursion}
 use Rattle.table.specs.Tables.{Table, sound, node_holds}
 use Rattle.table.specs.declared.node.Node.{Node}
 use Rattle.step.specs.Logic.{Kind, Lawful, on_words}
@@ -120,12 +120,12 @@ module _ {R : Type 0} (k : Kind R) (held : R → Type 0) (law : Lawful k held) (
       } in
       All-set (λ w. w < 2 ^ 32) sofar (record_start m j + 1 + i) _ (node_small k held law v fits (first v) x holds) small
 
-  pub columns_small : (xs : List Node) → All (λ x. node_holds x ≡ true) xs → (i : ℕ) (block : List ℕ) → Words block → Words (columns (on_words k) t xs i block)
+  pub columns_small : (xs : List Node) → AllByRecursion (λ x. node_holds x ≡ true) xs → (i : ℕ) (block : List ℕ) → Words block → Words (columns (on_words k) t xs i block)
   unfolding columns
   columns_small [] hold i block some = some
   columns_small (x ∷ xs) hold i block some = columns_small xs hold.1 (suc i) _ (column_small x hold.0 i block some t.switches)
 
-  pub columns_at : (xs : List Node) → All (λ x. node_holds x ≡ true) xs → (i : ℕ) (block : List ℕ) → Words block → i + length xs ≤ length t.nodes → records_length t.switches (length t.nodes) ≤ length block
+  pub columns_at : (xs : List Node) → AllByRecursion (λ x. node_holds x ≡ true) xs → (i : ℕ) (block : List ℕ) → Words block → i + length xs ≤ length t.nodes → records_length t.switches (length t.nodes) ≤ length block
       → (j : ℕ) → j < t.switches → (a : ℕ) (d : Node) → a < length xs → Came (on_words k) t (columns (on_words k) t xs i block) j (i + a) (get_or xs a d)
   unfolding columns
   columns_at [] hold i block some fits room j below a d lt = absurd (omega arith)

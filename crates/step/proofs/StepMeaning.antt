@@ -2,7 +2,7 @@
 use Rattle.std.proofs.Common.{◌≡◌, ℕ, zero, suc, ◌+◌, ◌^◌, ◌<◌, Bool, true, false, cond, ◌&&◌, ◌||◌, eqb, List, [], ◌∷◌, ◌++◌, length, get_or, take, sym, refl, ap, ◌∙◌, add-zero, zero-add, arith}
 use Rattle.std.proofs.ByRecursion.{All-push, All-take, All-drop}
 use Rattle.std.proofs.lemmas.List.{length_push, length-take-le, get_or_push, get_or-take, take_all, take_at, take-take}
-use Rattle.std.specs.List.{AllByRecursion as All}
+use Rattle.std.specs.List.{AllByRecursion}
 use Rattle.table.specs.Limits.{register_count}
 use Rattle.table.specs.Tables.{Table, sound, node_holds}
 use Rattle.table.specs.declared.node.Node.{Node}
@@ -74,7 +74,7 @@ module _ (k : WordKind) (t : Table) (s : ℕ) (block : List ℕ) where
 
 module _ {R : Type 0} (k : Kind R) (held : R → Type 0) (law : Lawful k held) where
   -- they are words
-  pub new_small : (m s : ℕ) (block registers : List ℕ) → Words block → Words registers → (xs : List Node) (words : List ℕ) → All (λ x. node_holds x ≡ true) xs → Words words → Words (new_words (on_words k) m s block registers xs words)
+  pub new_small : (m s : ℕ) (block registers : List ℕ) → Words block → Words registers → (xs : List Node) (words : List ℕ) → AllByRecursion (λ x. node_holds x ≡ true) xs → Words words → Words (new_words (on_words k) m s block registers xs words)
   unfolding new_words
   new_small m s block registers some regs [] words hold small = small
   new_small m s block registers some regs (x ∷ xs) words hold small =

@@ -2,7 +2,7 @@
 use Rattle.std.proofs.Common.{◌≡◌, ℕ, ◌+◌, ◌*◌, ◌^◌, ◌<◌, true, false, List, [], ◌∷◌, length, get_or, take, drop, ap, ◌∙◌, arith, ltb-true}
 use Rattle.std.proofs.ByRecursion.{All-from_get_or, All-get_or, All-take, All-drop}
 use Rattle.std.proofs.lemmas.List.{get_or-take, get_or-drop}
-use Rattle.std.specs.List.{AllByRecursion as All}
+use Rattle.std.specs.List.{AllByRecursion}
 use Rattle.table.specs.Limits.{register_count}
 use Rattle.table.specs.Tables.{Table, sound, node_holds, every, is_word}
 use Rattle.table.specs.declared.node.Node.{Node}
@@ -28,7 +28,7 @@ words_all [] h = tt
 words_all (w ∷ ws) h = (ltb-true _ _ (and_left _ _ h), words_all ws (and_right _ _ h))
 
 module _ (t : Table) (is_sound : sound t ≡ true) where
-  pub all_hold : All (λ x. node_holds x ≡ true) t.nodes
+  pub all_hold : AllByRecursion (λ x. node_holds x ≡ true) t.nodes
   all_hold = All-from_get_or (λ x. node_holds x ≡ true) t.nodes (Truth false) (λ i lt. (nodes_at t.switches t.nodes (sound_parts t is_sound).nodes i lt).holds)
 
   pub node_hold : (i : ℕ) (d : Node) → i < length t.nodes → node_holds (get_or t.nodes i d) ≡ true

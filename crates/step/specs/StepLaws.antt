@@ -1,6 +1,6 @@
 -- What a step and an opening do, in the logic's words. Assumes nothing.
 use Rattle.std.specs.Prelude.{◌≡◌, ℕ, suc, ◌+◌, ◌^◌, ◌<◌, true, cond, not, ◌&&◌, List, length, drop, Result, ◌==◌, nat_lt, slice_index, slice_index_or}
-use Rattle.std.specs.List.{AllByRecursion as All}
+use Rattle.std.specs.List.{AllByRecursion}
 use Rattle.readings.specs.Ports.{has}
 use Rattle.table.specs.Tables.{Table, sound}
 use Rattle.table.specs.declared.fault.Fault.{Fault}
@@ -19,7 +19,7 @@ abbrev pub known : {R : Type 0} → Kind R → ℕ → List ℕ → ℕ → Valu
 known k m block s v j = cond (j == s) v (values_of k (record_words m block j))
 
 abbrev pub Words : List ℕ → Type 0
-Words block = All (λ w. w < 2 ^ 32) block
+Words block = AllByRecursion (λ w. w < 2 ^ 32) block
 
 -- The own words that a step works out from a block stand for values that obey the logic: the state before is the one
 -- whose words the own record had, and of another switch it is the one that its record tells of.

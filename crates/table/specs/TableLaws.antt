@@ -1,7 +1,7 @@
 -- What holds of reading and writing rule tables, in the format's own words. Assumes nothing.
 use Rattle.std.specs.Prelude.{◌≡◌, ℕ, zero, suc, ◌+◌, ◌*◌, ◌<◌, ◌≤◌, Bool, true, false, cond, List, [], ◌∷◌, ◌++◌, length, take, Some, None, Ok, Err, Option, Result, ◌==◌, nat_eq, nat_le}
 use Rattle.std.specs.Option.{unwrap_or}
-use Rattle.std.specs.List.{AllByRecursion as All}
+use Rattle.std.specs.List.{AllByRecursion}
 use Rattle.table.specs.Limits.{max_switches, max_nodes, max_rules, register_count}
 use Rattle.table.specs.Nodes.{decoded, node_fits, rule_fits}
 use Rattle.table.specs.Tables.{Table, sound, between, table_bytes, table_length, table_front, table_alone, node_size, rule_size, nodes_start, rules_start, starts_start}
@@ -14,7 +14,7 @@ use Rattle.table.specs.declared.node.Node.TheVariants.{Truth}
 use Rattle.table.specs.declared.node.Rule.{Rule}
 
 abbrev pub Bytes : List ℕ → Type 0
-Bytes bs = All (λ b. b < 256) bs
+Bytes bs = AllByRecursion (λ b. b < 256) bs
 
 -- Check accepts exactly the bytes that encode some sound table of the kind,
 -- and encoding and decoding undo each other.

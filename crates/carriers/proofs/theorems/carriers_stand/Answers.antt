@@ -1,6 +1,6 @@
 use Rattle.std.proofs.Common.{◌≡◌, ℕ, ◌+◌, ◌<◌, Bool, true, false, cond, eqb, List, [], ◌∷◌, ◌++◌, Some, None, Option, sym, refl, ap, ◌∙◌, subst, inl, inr, arith}
 use Rattle.std.proofs.lemmas.Bool.{cases_Bool}
-use Rattle.std.specs.List.{AllByRecursion as All}
+use Rattle.std.specs.List.{AllByRecursion}
 use Rattle.carriers.specs.Meanings.{Held, Meaning, copies_but, copy_under, no_space, put_after, retire_after, retired_or_same, sendable, with_copy, without_copy}
 use Rattle.carriers.specs.Runs.{Answer, Call, CarriersAgree, InOrder, Rising, Run, StaysInOrder, Step, done, fetched, fetches, more, numbered, puts, retired, retires}
 use Rattle.carriers.proofs.theorems.carriers_stand.Goals as goal
@@ -20,15 +20,15 @@ runs_agree {b' = e} (more s r) (more {cs = ds} {xs = ys} t q) =
 agree : CarriersAgree
 agree a a' b b' cs xs xs' same r r' = runs_agree r (subst (λ m. Run m cs xs' b') (sym same) r')
 
-below_more : (n m : ℕ) (hs : List Held) → n < m → All (λ h. h.0 < n) hs → All (λ h. h.0 < m) hs
+below_more : (n m : ℕ) (hs : List Held) → n < m → AllByRecursion (λ h. h.0 < n) hs → AllByRecursion (λ h. h.0 < m) hs
 below_more n m [] lt a = tt
 below_more n m (h ∷ hs) lt a = (omega (arith, a.0), below_more n m hs lt a.1)
 
-all_push : (P : Held → Type 0) (hs : List Held) (h : Held) → All P hs → P h → All P (hs ++ h ∷ [])
+all_push : (P : Held → Type 0) (hs : List Held) (h : Held) → AllByRecursion P hs → P h → AllByRecursion P (hs ++ h ∷ [])
 all_push P [] h a p = (p, tt)
 all_push P (x ∷ xs) h a p = (a.0, all_push P xs h a.1 p)
 
-rising_push : (hs : List Held) (n : ℕ) (hand : List ℕ) → Rising hs → All (λ h. h.0 < n) hs → Rising (hs ++ (n, hand) ∷ [])
+rising_push : (hs : List Held) (n : ℕ) (hand : List ℕ) → Rising hs → AllByRecursion (λ h. h.0 < n) hs → Rising (hs ++ (n, hand) ∷ [])
 rising_push [] n hand r a = (tt, tt)
 rising_push (h ∷ hs) n hand r a = (all_push (λ k. h.0 < k.0) hs (n, hand) r.0 a.0, rising_push hs n hand r.1 a.1)
 
@@ -38,7 +38,7 @@ put_in_order c hand o = (
   all_push (λ h. h.0 < c.next + 1) c.held (c.next, hand) (below_more c.next (c.next + 1) c.held (omega arith) o.1) (omega arith),
 )
 
-but_all : (P : Held → Type 0) (x : ℕ) (hs : List Held) → All P hs → All P (copies_but x hs)
+but_all : (P : Held → Type 0) (x : ℕ) (hs : List Held) → AllByRecursion P hs → AllByRecursion P (copies_but x hs)
 unfolding copies_but
 but_all P x [] a = tt
 but_all P x (h ∷ hs) a = elim (cases_Bool (eqb h.0 x)) [

@@ -16,11 +16,11 @@ returns g c =
       fleet = λ sound.
           opened_as g.K.Reading.code k t before c.if-live.memory c.fits-live.result (c.fits-live.ensures.value sound)
           (λ lives. elim c.if-live.branch [
-            | then-live w ↦ w.memory_is ∙ w.open_blocks.ensures
+            | then-live w ↦ w.memory-is ∙ w.open_blocks.ensures
             | else-live w ↦ let not = w.if-live.false in let z : ◌≡◌ {A = ℕ} 0 1 = cc in absurd (omega arith)
           ])
           (λ shut. elim c.if-live.branch [
             | then-live w ↦ let is = w.if-live.true in let z : ◌≡◌ {A = ℕ} 0 1 = cc in absurd (omega arith)
-            | else-live w ↦ w.memory_is
+            | else-live w ↦ w.memory-is
           ]);
     }

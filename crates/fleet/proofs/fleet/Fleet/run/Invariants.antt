@@ -1,5 +1,5 @@
 use Rattle.std.proofs.Common.{take}
-use Rattle.std.specs.List.{AllByRecursion as All}
+use Rattle.std.specs.List.{AllByRecursion}
 use Rattle.table.specs.Views.{view}
 use Rattle.step.specs.Nodes.{word_kind}
 use Rattle.history.specs.Runs.{WordCall}
@@ -10,7 +10,7 @@ use Rattle.fleet.proofs.fleet.Fleet.run.Given as goal
 
 abbrev pub invariant-loop-i : goal.invariant-loop-i
 invariant-loop-i g l =
-    All WordCall (listed (take l.i l.calls))
+    AllByRecursion WordCall (listed (take l.i l.calls))
     × (g.C.Carrier.sound l.initial.self.carrier
     → Running g.K.Reading.code (word_kind g.K.Reading.word g.K.Reading.reading g.K.Reading.joined g.K.Reading.less g.K.Reading.inside g.K.Reading.equal) (view l.table) l.initial.self.live
     (state l.initial.memory l.initial.hand (g.C.Carrier.meaning l.initial.self.carrier))
