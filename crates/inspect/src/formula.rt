@@ -216,13 +216,13 @@ impl<'a> Formula<'a> {
 
 // Writes a parenthesis where the formula is in parentheses.
 fn write_opening<W: fmt::Write>(bracketed: bool, f: &mut fmt::Formatter<W>) -> fmt::Result
-    ensures { WritesOnOk write_str_gives f.old result (opening bracketed) f.new }
+    ensures { WritesOnOk W.write_str_gives f.old result (opening bracketed) f.new }
 {
     f.write_str(if bracketed { "(" } else { "" })
 }
 
 fn write_closing<W: fmt::Write>(bracketed: bool, f: &mut fmt::Formatter<W>) -> fmt::Result
-    ensures { WritesOnOk write_str_gives f.old result (closing bracketed) f.new }
+    ensures { WritesOnOk W.write_str_gives f.old result (closing bracketed) f.new }
 {
     f.write_str(if bracketed { ")" } else { "" })
 }
@@ -233,7 +233,7 @@ fn show<W: fmt::Write>(
     around: Strength,
     f: &mut fmt::Formatter<W>,
 ) -> fmt::Result
-    ensures { WritesOnOk write_str_gives f.old result (formula_text formula.entry.kind formula.entry.nodes.now formula.entry.depth formula.entry.node around) f.new }
+    ensures { WritesOnOk W.write_str_gives f.old result (formula_text formula.entry.kind formula.entry.nodes.now formula.entry.depth formula.entry.node around) f.new }
 {
     let kind = formula.kind;
     let form = formula.form();

@@ -11,6 +11,7 @@ mod value;
 use failure::Failure;
 use options::Options;
 use std::io::{BufReader, Read, Write};
+use std::process::ExitCode;
 use std::{env, fs, io};
 use table::kind::check_delivered;
 use table::table::{Checked, Draft};
@@ -80,12 +81,14 @@ fn run(rt: &HostRuntime) -> Result<(), Failure> {
     }
 }
 
-fn main(rt: HostRuntime) -> Result<(), Failure> {
-    let ended = run(&rt);
-    if let Err(failure) = &ended
-        && failure.is_unsaid()
-    {
-        let _ = eprintln!(rt; "{failure}");
+fn main(rt: HostRuntime) -> ExitCode {
+    match run(&rt) {
+        Ok(()) => ExitCode::SUCCESS,
+        Err(failure) => {
+            if failure.is_unsaid() {
+                let _ = eprintln!(rt; "{failure}");
+            }
+            ExitCode::FAILURE
+        }
     }
-    ended
 }

@@ -28,7 +28,7 @@ fn write_port<W: fmt::Write>(
     first: bool,
     f: &mut fmt::Formatter<W>,
 ) -> fmt::Result
-    ensures { WritesOnOk write_str_gives f.old result (port_text there first port) f.new }
+    ensures { WritesOnOk W.write_str_gives f.old result (port_text there first port) f.new }
 {
     if !there {
         write!(f, "")

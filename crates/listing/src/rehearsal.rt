@@ -168,7 +168,7 @@ pub fn rehearse<K: Reading>(
     calls: &[Call],
     knows: bool,
 ) -> Result<Rehearsed, Stop>
-    ensures replies { Gives (λ v. v.replies.items) result (rehearsal code (word_kind K.word K.reading K.joined K.less K.inside K.equal) (view table.now) calls.now) }
+    ensures replies { Gives (λ v. v.replies.items) result (rehearsal K.code (word_kind K.word K.reading K.joined K.less K.inside K.equal) (view table.now) calls.now) }
     ensures known { IfOk result (λ v. v.known.items ≡ known_after K.code (word_kind K.word K.reading K.joined K.less K.inside K.equal) (view table.now) calls.now knows) }
     ensures law { IfOk result (λ v. RehearsalLaw (kind_of K.word K.reading K.joined K.less K.inside K.equal) (view table.now) calls.now v.replies.items) }
 {

@@ -42,7 +42,7 @@ fn write_event<W: fmt::Write>(
     reply: Reply,
     f: &mut fmt::Formatter<W>,
 ) -> fmt::Result
-    ensures { WritesOnOk write_str_gives f.old result (event_text line switch reply) f.new }
+    ensures { WritesOnOk W.write_str_gives f.old result (event_text line switch reply) f.new }
 {
     let count = reply.count;
     let broken = reply.broken;

@@ -8,6 +8,7 @@ use failure::Failure;
 use listing::output::render;
 use options::Options;
 use std::io::{BufReader, Read, Write};
+use std::process::ExitCode;
 use std::{env, fs, io};
 
 // The words after the program's name.
@@ -65,12 +66,14 @@ fn run(rt: &HostRuntime) -> Result<(), Failure> {
     }
 }
 
-fn main(rt: HostRuntime) -> Result<(), Failure> {
-    let ended = run(&rt);
-    if let Err(failure) = &ended
-        && failure.is_unsaid()
-    {
-        let _ = eprintln!(rt; "{failure}");
+fn main(rt: HostRuntime) -> ExitCode {
+    match run(&rt) {
+        Ok(()) => ExitCode::SUCCESS,
+        Err(failure) => {
+            if failure.is_unsaid() {
+                let _ = eprintln!(rt; "{failure}");
+            }
+            ExitCode::FAILURE
+        }
     }
-    ended
 }

@@ -21,39 +21,39 @@ returns g t c plain ok =
     let opened = c.in_ok-write_opening.ensures plain refl in
     let body : HasWritten took first (body_text k x part) last =
     elim c.match-form.branch [
-      | goal.in-Truth+in-ok-write w ↦
-          placed took k part x _ first last _ w.in-Truth.is w.f-is (w.in_ok-write.ensures.shows opened.plain refl)
-      | goal.in-Register+in-ok-write-2 w ↦
-          placed took k part x _ first last _ w.in-Register.is w.f-is (w.in_ok-write-2.ensures.shows opened.plain refl)
-      | goal.in-Constant+in-ok-write-3 w ↦
-          placed took k part x _ first last _ w.in-Constant.is w.f-is (w.in_ok-write-3.ensures.shows opened.plain refl)
-      | goal.in-Name+in-ok-write-4 w ↦
-          placed took k part x _ first last _ w.in-Name.is w.f-is (w.in_ok-write-4.ensures.shows opened.plain refl)
-      | goal.in-Prefix+in-ok-write-5+in-ok-show w ↦
+      | goal.in-Truth+in_ok-write-in-Truth w ↦
+          placed took k part x _ first last _ w.in-Truth.is w.f-is (w.in_ok-write-in-Truth.ensures.writes opened.plain refl)
+      | goal.in-Register+in_ok-write-in-Register w ↦
+          placed took k part x _ first last _ w.in-Register.is w.f-is (w.in_ok-write-in-Register.ensures.writes opened.plain refl)
+      | goal.in-Constant+in_ok-write-in-Constant w ↦
+          placed took k part x _ first last _ w.in-Constant.is w.f-is (w.in_ok-write-in-Constant.ensures.writes opened.plain refl)
+      | goal.in-Name+in_ok-write-in-Name w ↦
+          placed took k part x _ first last _ w.in-Name.is w.f-is (w.in_ok-write-in-Name.ensures.writes opened.plain refl)
+      | goal.in-Prefix+in_ok-write-in-Prefix+in_ok-show-in-Prefix w ↦
           let o = w.operand.ensures in
           let at = strong ∙ ap form_strength w.in-Prefix.is in
-          let one = w.in_ok-write-5.ensures.shows opened.plain refl in
-          let two = w.in_ok-show.ensures one.plain refl in
+          let one = w.in_ok-write-in-Prefix.ensures.writes opened.plain refl in
+          let two = w.in_ok-show-in-Prefix.ensures one.plain refl in
           placed took k part x _ first last _ w.in-Prefix.is w.f-is
           (put_is took _ _ _ _ (prefixed _ _ _ _ w.word-word.ensures (λ i. formula_text (o.kind i) (o.nodes i) (o.depth i) (o.node i) (at i)))
           (put_more took _ _ _ _ _ one two))
-      | goal.in-Infix+in-ok-show-2+in-ok-write-6+in-ok-show-3 w ↦
+      | goal.in-Infix+in_ok-show-in-Infix+in_ok-write-in-Infix+in_ok-show-in-Infix-2 w ↦
           let o = w.operand-in-Infix.ensures in
           let q = w.operand-in-Infix-2.ensures in
           let at = strong ∙ ap form_strength w.in-Infix.is in
-          let one = w.in_ok-show-2.ensures opened.plain refl in
-          let two = w.in_ok-write-6.ensures.shows one.plain refl in
-          let three = w.in_ok-show-3.ensures two.plain refl in
+          let one = w.in_ok-show-in-Infix.ensures opened.plain refl in
+          let two = w.in_ok-write-in-Infix.ensures.writes one.plain refl in
+          let three = w.in_ok-show-in-Infix-2.ensures two.plain refl in
           placed took k part x _ first last _ w.in-Infix.is w.f-is
           (put_is took _ _ _ _
-          (infixed _ _ _ _ _ _ (λ i. formula_text (o.kind i) (o.nodes i) (o.depth i) (o.node i) (at i)) w.word-word_in-Infix.ensures
+          (infixed _ _ _ _ _ _ (λ i. formula_text (o.kind i) (o.nodes i) (o.depth i) (o.node i) (at i)) w.word-word-in-Infix.ensures
           (λ i. formula_text (q.kind i) (q.nodes i) (q.depth i) (q.node i) (at i)))
           (put_more took _ _ _ _ _ one (put_more took _ _ _ _ _ two three)))
-      | goal.in-At+in-ok-show-4+in-ok-write-7 w ↦
+      | goal.in-At+in_ok-show-in-At+in_ok-write-in-At w ↦
           let o = w.operand-in-At.ensures in
           let at = strong ∙ ap form_strength w.in-At.is in
-          let one = w.in_ok-show-4.ensures opened.plain refl in
-          let two = w.in_ok-write-7.ensures.shows one.plain refl in
+          let one = w.in_ok-show-in-At.ensures opened.plain refl in
+          let two = w.in_ok-write-in-At.ensures.writes one.plain refl in
           placed took k part x _ first last _ w.in-At.is w.f-is
           (put_is took _ _ _ _ (suffixed _ _ _ (λ i. formula_text (o.kind i) (o.nodes i) (o.depth i) (o.node i) (at i)))
           (put_more took _ _ _ _ _ one two))

@@ -14,10 +14,10 @@ returns c =
     let filled = c.fill.new.block in
     let same = ap length c.nodes.ensures.value in
     let size : c.switches.result * (length c.nodes.result.now + 1) + 8 ≡ block_length t.switches (length t.nodes) = (λ i. c.switches.ensures.value i * (same i + 1) + 8) in
-    let before : length c.deref-mut.result.now ≡ block_length t.switches (length t.nodes) = c.deref-mut.ensures.len ∙ c.in_ok-block.ensures.len ∙ size in
-    let fitting : Fitting t s c.deref-mut.result.now = record { there = c.requires; shape = before } in
-    let whole = take_at filled (drop (length filled) c.in_ok-block.block.items) c.in_ok-block.block.len (c.fill.auto.block ∙ c.deref-mut.ensures.len) in
+    let before : length c.deref_mut.result.now ≡ block_length t.switches (length t.nodes) = c.deref_mut.ensures.len ∙ c.in_ok-block.ensures.len ∙ size in
+    let fitting : Fitting t s c.deref_mut.result.now = record { there = c.requires; shape = before } in
+    let whole = take_at filled (drop (length filled) c.in_ok-block.block.items) c.in_ok-block.block.len (c.fill.auto.block ∙ c.deref_mut.ensures.len) in
     record {
-      value = whole ∙ c.fill.ensures ∙ open_there (words_by c.args.kind) t s c.deref-mut.result.now fitting;
+      value = whole ∙ c.fill.ensures ∙ open_there (words_by c.args.kind) t s c.deref_mut.result.now fitting;
       fitting = record { there = c.requires; shape = ap length whole ∙ c.fill.auto.block ∙ before };
     }
