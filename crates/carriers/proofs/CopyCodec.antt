@@ -1,6 +1,6 @@
 -- Reading a copy's bytes undoes writing them. Assumes nothing.
-use Rattle.std.proofs.Common.{◌≡◌, ℕ, zero, suc, ◌+◌, ◌-◌, ◌*◌, ◌^◌, ◌<◌, ◌≤◌, Bool, true, false, cond, ◌&&◌, eqb, ltb, leb, List, [], ◌∷◌, ◌++◌, length, get_or, take, drop, Ok, Err, Result, sym, refl, ap, ◌∙◌, subst, inl, inr, suc-mul, arith, length-append, length-drop}
-use Rattle.std.proofs.lemmas.List.{drop-append-le, drop_at, length-take-le, take_all, take-append-le}
+use Rattle.std.proofs.Common.{◌≡◌, ℕ, zero, suc, ◌+◌, ◌*◌, ◌<◌, ◌≤◌, Bool, true, eqb, ltb, List, [], ◌∷◌, ◌++◌, length, get_or, take, drop, Ok, sym, refl, ap, ◌∙◌, subst, inl, inr, suc-mul, arith, length-drop}
+use Rattle.std.proofs.lemmas.List.{drop-append-le, drop_at, take_all, take-append-le}
 use Rattle.std.proofs.lemmas.Bool.{and_from, and_parts, cases_eq, cond-true, eq-eqb, eqb-true, lt-ltb, ltb-true}
 use Rattle.std.specs.List.{flat_map}
 use Rattle.step.specs.Records.{hand_length, hand_records, record_length, record_of, records_length}
@@ -9,12 +9,11 @@ use Rattle.table.proofs.Words.{Stands, stands_none, stands_at, stands_left, stan
 use Rattle.table.specs.TableLaws.{Bytes}
 use Rattle.table.specs.Tables.{every, is_word, words_at}
 use Rattle.table.specs.Wire.{and_then, field, word_at, word_bytes}
-use Rattle.table.specs.declared.fault.Fault.{Fault}
 use Rattle.table.specs.declared.fault.Reason.TheVariants.{Copy}
-use Rattle.carriers.proofs.CopyWrites.{joined_append, length_copy_bytes, length_hand_in, length_record_fields, length_record_of, length_records_fields, length_records_in}
+use Rattle.carriers.proofs.CopyWrites.{joined_append, length_copy_bytes, length_hand_in, length_record_of, length_records_fields, length_records_in}
 use Rattle.carriers.proofs.EachRead.{each_from, each_parts}
 use Rattle.carriers.proofs.Rows.{row_room}
-use Rattle.carriers.specs.Copies.{copy_alone, copy_bytes, copy_fields, copy_length, copy_read, each_read, hand_in, header_read, record_fields, record_in, record_offset, record_read, record_size, records_fields, records_in, records_read, required, sound_copy}
+use Rattle.carriers.specs.Copies.{copy_bytes, copy_length, copy_read, hand_in, header_read, record_fields, record_in, record_offset, record_read, record_size, records_fields, records_in, records_read, required, sound_copy}
 use Rattle.carriers.specs.CopyLaws.{CopyLaws}
 
 -- What stands in bytes is read as it is

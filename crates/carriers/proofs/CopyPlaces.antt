@@ -1,15 +1,15 @@
 -- The place of a copy's refusal is within the longest copy. Assumes nothing.
-use Rattle.std.proofs.Common.{◌≡◌, ℕ, zero, suc, ◌+◌, ◌*◌, ◌<◌, ◌≤◌, Bool, true, false, cond, eqb, ltb, leb, List, length, is_some, IfErr, Ok, Err, Result, refl, arith}
+use Rattle.std.proofs.Common.{◌≡◌, ℕ, zero, suc, ◌+◌, ◌*◌, ◌<◌, ◌≤◌, Bool, true, false, cond, eqb, ltb, leb, List, is_some, IfErr, Ok, Err, Result, arith}
 use Rattle.std.proofs.lemmas.Bool.{and_parts, leb-true}
 use Rattle.table.specs.Limits.{max_nodes, max_switches}
 use Rattle.table.specs.Delivered.{kind_of}
 use Rattle.table.specs.Tables.{between}
 use Rattle.table.specs.Wire.{and_then, fault, field}
 use Rattle.table.specs.declared.fault.Fault.{Fault}
-use Rattle.table.specs.declared.fault.Reason.TheVariants.{Copy, TableField}
+use Rattle.table.specs.declared.fault.Reason.TheVariants.{Copy}
 use Rattle.carriers.proofs.Rows.{row_most, row_room}
 use Rattle.carriers.specs.Copies.{copy_length, copy_read, each_read, header_read, record_offset, record_read, record_size, records_read, required}
-use Rattle.carriers.specs.CopyCalls.{check_answer, in_range, known, longest_copy}
+use Rattle.carriers.specs.CopyCalls.{in_range, known, longest_copy}
 
 module _ (b : ℕ) where
   abbrev Below : {A : Type 0} → Result A Fault → Type 0

@@ -1,6 +1,6 @@
 -- Fields written one after another, and words taken one after another. Assumes nothing.
-use Rattle.std.proofs.Common.{◌≡◌, ℕ, zero, suc, ◌+◌, ◌-◌, ◌*◌, ◌<◌, ◌≤◌, List, [], ◌∷◌, ◌++◌, length, get_or, take, drop, set, sym, refl, ap, ◌∙◌, subst, append_assoc, suc-mul, arith, length-append, length-drop}
-use Rattle.std.proofs.lemmas.List.{length-take-le, take_all, take_more, take_rest}
+use Rattle.std.proofs.Common.{◌≡◌, ℕ, zero, suc, ◌+◌, ◌*◌, ◌<◌, ◌≤◌, List, [], ◌∷◌, ◌++◌, length, get_or, take, drop, set, sym, refl, ap, ◌∙◌, suc-mul, arith, length-append, length-drop}
+use Rattle.std.proofs.lemmas.List.{length-take-le, take_all, take_more}
 use Rattle.std.specs.List.{flat_map}
 use Rattle.step.specs.Records.{hand_length, hand_records, record_length, record_of, record_start, records_length}
 use Rattle.table.proofs.Arrays.{length_joined}
@@ -8,9 +8,9 @@ use Rattle.table.proofs.TableCodec.{length_words_at}
 use Rattle.table.proofs.WordRuns.{words_more}
 use Rattle.table.specs.Tables.{words_at}
 use Rattle.table.specs.Wire.{word_at, word_bytes}
-use Rattle.carriers.proofs.Placing.{length_placed, placed_all, placed_more, placed_none, placed_set, set_placed}
+use Rattle.carriers.proofs.Placing.{placed_all, placed_more, placed_none, placed_set, set_placed}
 use Rattle.carriers.proofs.Rows.{row_room}
-use Rattle.carriers.specs.Copies.{copy_bytes, copy_fields, copy_length, hand_in, record_fields, record_in, record_offset, record_size, records_fields, records_in}
+use Rattle.carriers.specs.Copies.{copy_bytes, copy_length, hand_in, record_fields, record_in, record_offset, record_size, records_fields, records_in}
 use Rattle.carriers.specs.Memory.{placed}
 
 pub joined_append : (xs ys : List ℕ) → flat_map word_bytes (xs ++ ys) ≡ flat_map word_bytes xs ++ flat_map word_bytes ys

@@ -1,12 +1,12 @@
 -- What a pool in new memory holds. Assumes nothing.
-use Rattle.std.proofs.Common.{◌≡◌, ℕ, zero, suc, ◌+◌, ◌*◌, ◌/◌, ◌<◌, ◌≤◌, List, [], length, get_or, replicate, sym, refl, ap, ◌∙◌, inl, inr, arith}
+use Rattle.std.proofs.Common.{◌≡◌, ℕ, zero, suc, ◌+◌, ◌*◌, List, [], get_or, replicate, sym, refl, ap, ◌∙◌, inl, inr, arith}
 use Rattle.std.proofs.lemmas.List.{get_or_past, get_or-replicate, length-replicate}
 use Rattle.std.proofs.lemmas.Bool.{cases_lt, cond-true, eq-eqb}
 use Rattle.table.specs.Wire.{word_at}
-use Rattle.carriers.specs.FramePlaces.{frame_copy, frame_flag, frame_place}
-use Rattle.carriers.specs.Places.{Distinct, Numbered, held_below, with_place}
+use Rattle.carriers.specs.FramePlaces.{frame_flag, frame_place}
+use Rattle.carriers.specs.Places.{Distinct, Numbered, held_below}
 use Rattle.carriers.specs.Pools.{meaning_of, opened}
-use Rattle.carriers.specs.WordPlaces.{word_copy, word_flag, word_place}
+use Rattle.carriers.specs.WordPlaces.{word_flag, word_place}
 use Rattle.carriers.specs.declared.places.Shape.{Shape}
 
 pub zero_everywhere : (n i : ℕ) → ◌≡◌ {A = ℕ} (get_or (replicate n 0) i 0) 0

@@ -1,7 +1,7 @@
 -- Parts of memory that are written over, one after another. Assumes nothing.
-use Rattle.std.proofs.Common.{◌≡◌, ℕ, zero, suc, ◌+◌, ◌-◌, ◌*◌, ◌<◌, ◌≤◌, List, [], ◌∷◌, ◌++◌, length, get_or, take, drop, set, sym, refl, ap, ◌∙◌, append_assoc, append-nil, arith, length-append, length-drop}
+use Rattle.std.proofs.Common.{◌≡◌, ℕ, suc, ◌+◌, ◌-◌, ◌<◌, ◌≤◌, List, [], ◌∷◌, ◌++◌, length, get_or, take, drop, set, sym, refl, ap, ◌∙◌, append_assoc, append-nil, arith, length-append, length-drop}
 use borrow.Rule.Slice.PartMut.{put_mid}
-use Rattle.std.proofs.lemmas.List.{drop_all, drop_at, drop-drop, drop-take, get_or_append_left, get_or-append_right, get_or-drop, get_or-take, length-take-le, set-append_right, set_split, take_all, take-append-drop, take_at, take-append-le}
+use Rattle.std.proofs.lemmas.List.{drop_all, drop_at, drop-drop, get_or_append_left, get_or-append_right, get_or-drop, get_or-take, length-take-le, set_split, take-append-drop, take_at}
 use Rattle.carriers.specs.Memory.{placed}
 
 pub length_placed : (d : List ℕ) (at : ℕ) (xs : List ℕ) → at + length xs ≤ length d → length (placed d at xs) ≡ length d

@@ -1,12 +1,12 @@
 -- What a pool's calls do to its meaning. Assumes nothing.
-use Rattle.std.proofs.Common.{◌≡◌, ℕ, ◌+◌, ◌<◌, ◌≤◌, Bool, true, false, cond, ◌||◌, eqb, List, [], ◌∷◌, ◌++◌, length, Some, None, Ok, Err, sym, refl, ap, ◌∙◌, subst, arith}
+use Rattle.std.proofs.Common.{◌≡◌, ℕ, ◌+◌, ◌<◌, true, false, eqb, List, length, Some, None, Ok, Err, sym, ap, ◌∙◌, subst, arith}
 use Rattle.std.proofs.lemmas.Bool.{and_from, cond-false, cond-true, eq-eqb, lt-ltb, ne_eqb, or_from, or_left}
 use Rattle.step.specs.Records.{hand_length}
 use Rattle.table.specs.Wire.{fault}
 use Rattle.table.specs.declared.fault.Fault.{Fault}
 use Rattle.table.specs.declared.fault.Reason.TheVariants.{Full, NotHeld}
-use Rattle.carriers.specs.Meanings.{Fetched, Meaning, Put, Retired, copies_but, copy_under, fetch_answer, fetch_hand, found_answer, found_hand, last_number, no_space, put_answer, put_after, retired_or_same, retire_after, retire_answer, sendable, sender, whole_hand, with_copy, without_copy}
-use Rattle.carriers.specs.Places.{Distinct, Numbered, held_below, lowest_below, used_below}
+use Rattle.carriers.specs.Meanings.{Fetched, Meaning, Put, Retired, copy_under, found_answer, found_hand, last_number, no_space, retired_or_same, sendable, sender, whole_hand, with_copy, without_copy}
+use Rattle.carriers.specs.Places.{held_below, lowest_below}
 use Rattle.carriers.specs.Pools.{Kept, meaning_of}
 use Rattle.carriers.specs.Stores.{Released, Stored}
 use Rattle.carriers.specs.declared.places.Shape.{Shape}

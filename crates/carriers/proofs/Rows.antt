@@ -1,5 +1,5 @@
 -- Parts of one width that lie in a row. Assumes nothing.
-use Rattle.std.proofs.Common.{◌≡◌, ℕ, zero, suc, ◌+◌, ◌*◌, ◌/◌, ◌<◌, ◌≤◌, sym, refl, ap, ◌∙◌, inl, inr, suc-mul, arith}
+use Rattle.std.proofs.Common.{ℕ, zero, suc, ◌+◌, ◌*◌, ◌<◌, ◌≤◌, ap, inl, inr, suc-mul, arith}
 use Rattle.std.proofs.lemmas.Bool.{cases_eq}
 
 -- part j of n lies within the row

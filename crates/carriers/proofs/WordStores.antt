@@ -1,12 +1,12 @@
 -- Writes to places of words. Assumes nothing.
-use Rattle.std.proofs.Common.{◌≡◌, ℕ, ◌+◌, ◌-◌, ◌*◌, ◌<◌, ◌≤◌, List, [], ◌∷◌, length, get_or, take, drop, sym, refl, ap, ◌∙◌, subst, arith}
+use Rattle.std.proofs.Common.{◌≡◌, ℕ, ◌+◌, ◌*◌, ◌<◌, List, [], ◌∷◌, length, get_or, take, drop, sym, ap, ◌∙◌, subst, arith}
 use Rattle.std.proofs.lemmas.List.{take_all}
 use Rattle.step.specs.Records.{hand_length}
 use Rattle.carriers.specs.Memory.{placed}
 use Rattle.carriers.specs.Stores.{Others, Stored, Released}
 use Rattle.carriers.specs.WordPlaces.{word_copy, word_flag, word_place, words_fit}
 use Rattle.carriers.specs.declared.places.Shape.{Shape}
-use Rattle.carriers.proofs.Placing.{getD_placed_in, length_placed}
+use Rattle.carriers.proofs.Placing.{getD_placed_in}
 use Rattle.carriers.proofs.Regions.{Elsewhere, elsewhere_placed, getD_other, part_other, part_placed}
 use Rattle.carriers.proofs.Rows.{row_room}
 

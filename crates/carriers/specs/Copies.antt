@@ -1,5 +1,5 @@
 -- A copy's bytes: code, sender, and an array of records, each a count and an array of words. Assumes nothing.
-use Rattle.std.specs.Prelude.{ℕ, zero, suc, ◌+◌, ◌*◌, Bool, true, cond, ◌&&◌, ltb, List, [], ◌∷◌, ◌++◌, length, drop, Ok, Err, Result, ◌==◌, nat_eq, nat_lt, slice_index}
+use Rattle.std.specs.Prelude.{ℕ, zero, suc, ◌+◌, ◌*◌, Bool, cond, ◌&&◌, ltb, List, [], ◌∷◌, ◌++◌, length, drop, Ok, Result, ◌==◌, nat_eq, nat_lt, slice_index}
 use Rattle.std.specs.List.{flat_map}
 use Rattle.step.specs.Records.{hand_length, hand_records, record_of}
 use Rattle.table.specs.Tables.{every, is_word, words_at}

@@ -1,5 +1,5 @@
 -- What a carrier means: copies held under numbers. Assumes nothing.
-use Rattle.std.specs.Prelude.{◌≡◌, ℕ, ◌+◌, Bool, cond, not, ◌&&◌, ◌||◌, List, [], ◌∷◌, ◌++◌, length, Some, None, Ok, Err, Option, Result, ◌==◌, nat_lt, slice_index}
+use Rattle.std.specs.Prelude.{◌≡◌, ℕ, ◌+◌, Bool, cond, ◌&&◌, ◌||◌, List, [], ◌∷◌, ◌++◌, length, Some, None, Ok, Option, Result, ◌==◌, nat_lt, slice_index}
 use Rattle.step.specs.Records.{hand_length}
 use Rattle.table.specs.Wire.{refuse}
 use Rattle.table.specs.declared.fault.Fault.{Fault}

@@ -1,15 +1,14 @@
 -- What an accepted call of a fleet does. Assumes nothing.
-use Rattle.std.proofs.Common.{◌≡◌, ℕ, zero, suc, ◌+◌, ◌*◌, ◌^◌, ◌<◌, ◌≤◌, Bool, true, false, cond, eqb, ltb, ◌≢◌, ◌⊎◌, List, [], ◌∷◌, length, is_ok, Some, None, Ok, Err, Option, Result, sym, refl, ap, ◌∙◌, subst, inl, inr, arith}
-use Rattle.std.proofs.lemmas.Bool.{cases_Bool, cond-true, cond-false, eqb-true, eqb-false, lt-ltb, ltb-true, ne_eqb, both_ways}
+use Rattle.std.proofs.Common.{◌≡◌, ℕ, ◌<◌, Bool, true, false, cond, ◌≢◌, List, length, is_ok, Some, None, Ok, Option, refl, ap, ◌∙◌, subst, arith}
+use Rattle.std.proofs.lemmas.Bool.{cond-true, cond-false, eqb-true, eqb-false, lt-ltb, ltb-true, ne_eqb, both_ways}
 use Rattle.table.specs.Limits.{register_count}
 use Rattle.table.specs.Tables.{Table}
-use Rattle.table.specs.declared.fault.Fault.{Fault}
 use Rattle.table.specs.declared.fault.Reason.{Reason}
 use Rattle.step.specs.Nodes.{WordKind}
 use Rattle.step.specs.Steps.{Act, set_register, send, receive, answer_of, max_count, own_count}
-use Rattle.carriers.specs.Meanings.{copy_under, no_space, with_copy, without_copy}
-use Rattle.history.specs.Calls.{Call, set_call, send_call, receive_call, retire_call, Fleet, Reply, answer, after_call, block_at, call_refusal, called, copy_of, event_refusal, event_reply, fleet_of, held_or, or_hand, put_block, reply, stepped}
-use Rattle.history.specs.Runs.{is_at, is_retire}
+use Rattle.carriers.specs.Meanings.{copy_under, no_space}
+use Rattle.history.specs.Calls.{Call, set_call, send_call, receive_call, retire_call, Fleet, answer, after_call, block_at, call_refusal, called, event_refusal, event_reply, fleet_of, held_or, or_hand, put_block, reply, stepped}
+use Rattle.history.specs.Runs.{is_at}
 
 -- Refusals
 

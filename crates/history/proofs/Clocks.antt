@@ -1,6 +1,6 @@
 -- What a switch knows of another: which events it has heard of, and the record of the latest. Assumes nothing.
-use Rattle.std.proofs.Common.{◌≡◌, ℕ, zero, suc, ◌+◌, ◌-◌, ◌<◌, ◌≤◌, Bool, true, false, cond, ltb, ◌≢◌, ◌⊎◌, ◌↔◌, List, length, Some, None, Option, sym, refl, ap, ◌∙◌, subst, inl, inr, ⊎_elim, arith}
-use Rattle.std.proofs.lemmas.Bool.{both_ways, cases_Bool, cases_lt, cases_eq, eq-eqb, ltb-true, ltb-false}
+use Rattle.std.proofs.Common.{◌≡◌, ℕ, zero, suc, ◌<◌, ◌≤◌, Bool, true, false, cond, ◌≢◌, ◌⊎◌, ◌↔◌, List, length, Some, sym, refl, ap, ◌∙◌, subst, inl, inr, ⊎_elim, arith}
+use Rattle.std.proofs.lemmas.Bool.{both_ways, cases_lt, cases_eq, ltb-true, ltb-false}
 use Rattle.table.specs.Tables.{Table, sound}
 use Rattle.step.proofs.OpeningMeaning.{opened_count}
 use Rattle.step.specs.Nodes.{WordKind}
@@ -8,13 +8,13 @@ use Rattle.step.specs.Opening.{opened}
 use Rattle.step.specs.Records.{count_of, hand_records, newer, record_of}
 use Rattle.step.specs.Steps.{Act, set_register, send, receive}
 use Rattle.carriers.specs.Meanings.{copy_under}
-use Rattle.history.specs.Calls.{Call, set_call, send_call, receive_call, retire_call, Fleet, copy_of}
+use Rattle.history.specs.Calls.{Call, set_call, send_call, receive_call, retire_call, Fleet}
 use Rattle.history.specs.Orders.{New}
-use Rattle.history.specs.Runs.{Before, step, chain, Nth, Precedes, next, heard, Until, answer_at, answered, call_at, event, event_of, events_of, fleet_at, is_at}
+use Rattle.history.specs.Runs.{Before, step, chain, Nth, Precedes, next, heard, Until, call_at, event, event_of, events_of, fleet_at}
 use Rattle.history.proofs.BlockSteps.{Makes, copy_record, newest, step_other, told}
 use Rattle.history.proofs.Calling.{Does, sets, sends, receives}
 use Rattle.history.proofs.Copies.{Sent, From, from, sent_answer, sent_from_answer, sent_once}
-use Rattle.history.proofs.Counting.{Last, never, last, Numbered, block_between, events_less, events_none, events_one, events_upto, last_event, lower_earlier, next_after, numbered, own_count_is, same_number, same_switch}
+use Rattle.history.proofs.Counting.{Last, never, last, block_between, events_one, events_upto, last_event, lower_earlier, own_count_is, same_switch}
 use Rattle.history.proofs.Memory.{first_records}
 use Rattle.history.proofs.Moments.{block, block_first, carrier, carrier_is, fits_at, moment, of_event, of_switch, event_at, one_switch, some_switch}
 

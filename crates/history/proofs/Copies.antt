@@ -1,16 +1,16 @@
 -- Which send put a copy that a carrier holds. Assumes nothing.
-use Rattle.std.proofs.Common.{◌≡◌, ℕ, zero, suc, ◌+◌, ◌-◌, ◌<◌, ◌≤◌, Bool, true, false, ◌≢◌, ◌⊎◌, List, [], ◌∷◌, length, is_ok, Some, None, Ok, Err, Option, sym, refl, ap, ◌∙◌, subst, inl, inr, arith}
+use Rattle.std.proofs.Common.{◌≡◌, ℕ, zero, suc, ◌+◌, ◌-◌, ◌<◌, ◌≤◌, true, List, length, is_ok, Some, None, Ok, Option, sym, refl, ap, ◌∙◌, subst, inl, inr, arith}
 use Rattle.std.proofs.lemmas.Bool.{cases_lt, eq-eqb}
 use Rattle.table.specs.Tables.{Table, sound}
 use Rattle.step.specs.Nodes.{WordKind}
-use Rattle.step.specs.Steps.{send, acted_block, advanced}
-use Rattle.carriers.specs.Meanings.{Meaning, copy_under, with_copy}
-use Rattle.history.specs.Calls.{Call, send_call, receive_call, Fleet, answer, block_at, called, copy_of, event_reply, put_block, ran, stepped}
+use Rattle.step.specs.Steps.{send}
+use Rattle.carriers.specs.Meanings.{copy_under, with_copy}
+use Rattle.history.specs.Calls.{Call, send_call, Fleet, answer, block_at, called, copy_of, event_reply, put_block, ran, stepped}
 use Rattle.history.specs.Orders.{New}
-use Rattle.history.specs.Runs.{Precedes, answer_at, answered, call_at, event, event_of, fleet_at, is_at}
+use Rattle.history.specs.Runs.{answer_at, answered, call_at, event, event_of, fleet_at, is_at}
 use Rattle.history.proofs.BlockSteps.{makes_send}
 use Rattle.history.proofs.Calling.{answer_ok, called_ok, ok_none, some_none}
-use Rattle.history.proofs.Moments.{Kept, Puts, accepted_at, block, call_is, carrier, event_accepted, event_at, event_below, fleet_past, fleet_step, held_before, kept_at, moment, next_grows, of_event, own_block}
+use Rattle.history.proofs.Moments.{Puts, accepted_at, block, call_is, carrier, event_accepted, event_at, event_below, fleet_past, fleet_step, held_before, kept_at, moment, next_grows, of_event, own_block}
 
 module _ (k : WordKind) (t : Table) (g : Fleet) (s : ℕ) where
   pub send_carrier : (c : Call) → c ≡ send_call s → is_ok (answer k t g c) ≡ true → (called k t g c).carrier ≡ with_copy g.carrier (copy_of k t s (stepped k t g s send))

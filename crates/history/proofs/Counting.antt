@@ -1,5 +1,5 @@
 -- The events of a switch, by their places and numbers. Assumes nothing.
-use Rattle.std.proofs.Common.{◌≡◌, ℕ, zero, suc, ◌+◌, ◌-◌, ◌<◌, ◌≤◌, Bool, true, false, cond, ◌≢◌, ◌⊎◌, List, length, sym, refl, ap, ◌∙◌, subst, inl, inr, arith}
+use Rattle.std.proofs.Common.{◌≡◌, ℕ, zero, suc, ◌+◌, ◌-◌, ◌<◌, ◌≤◌, true, false, cond, List, length, sym, refl, ap, ◌∙◌, subst, inl, inr, arith}
 use Rattle.std.proofs.lemmas.Bool.{both_ways, cases_Bool, cases_lt, cases_eq}
 use Rattle.table.specs.Tables.{Table, sound}
 use Rattle.step.proofs.OpeningMeaning.{opened_count}
@@ -7,10 +7,9 @@ use Rattle.step.specs.Nodes.{WordKind}
 use Rattle.step.specs.Records.{count_of, record_of}
 use Rattle.history.specs.Calls.{Call, Fleet}
 use Rattle.history.specs.Orders.{New}
-use Rattle.history.specs.Runs.{Before, step, chain, Nth, Precedes, next, heard, Until, event, event_of, events_of}
+use Rattle.history.specs.Runs.{Before, step, chain, Precedes, next, event_of, events_of}
 use Rattle.history.proofs.BlockSteps.{step_count}
-use Rattle.history.proofs.Copies.{Sent, From, from, sent_from_answer, sent_once}
-use Rattle.history.proofs.Moments.{block, block_first, block_kept, fits_at, moment, of_event, event_at, one_switch}
+use Rattle.history.proofs.Moments.{block, block_first, block_kept, fits_at, moment}
 
 module _ (k : WordKind) (t : Table) (f : Fleet) (calls : List Call) where
   events_more : (s i : ℕ) → events_of k t f calls s (suc i) ≡ events_of k t f calls s i + cond (event_of k t f calls s i) 1 0

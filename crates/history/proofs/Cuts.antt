@@ -1,17 +1,16 @@
 -- Some allowed order begins with exactly what happens before an event, and then the event. Assumes nothing.
 use Rattle.std.proofs.Common.{◌≡◌, ℕ, zero, suc, ◌+◌, ◌<◌, ◌≤◌, Bool, true, false, cond, not, ◌&&◌, eqb, ltb, ◌≢◌, ◌⊎◌, List, [], ◌∷◌, ◌++◌, length, filter, sym, refl, ap, ◌∙◌, subst, inl, inr, arith}
 use Rattle.std.proofs.lemmas.List.Elements.{filter-append}
-use Rattle.std.proofs.lemmas.List.{append_assoc}
-use Rattle.std.proofs.lemmas.Bool.{and_from, and_left, and_parts, and_right, both_ways, cases_Bool, cases_eq, cases_lt, cond-false, cond-true, eq-eqb, eqb-false, eqb-true, lt-ltb, ltb-true, ne_eqb, not_from_false, not_from_true, not-true}
+use Rattle.std.proofs.lemmas.Bool.{and_from, and_left, and_parts, and_right, both_ways, cases_Bool, cases_eq, cond-false, cond-true, eq-eqb, eqb-false, lt-ltb, ltb-true, ne_eqb, not_from_false, not_from_true, not-true}
 use Rattle.table.specs.Tables.{Table, sound}
 use Rattle.step.specs.Nodes.{WordKind}
 use Rattle.step.specs.Records.{count_of}
 use Rattle.history.specs.Calls.{Call, Fleet}
 use Rattle.history.specs.Orders.{Allowed, New, times}
-use Rattle.history.specs.Runs.{Before, step, chain, Precedes, Until, call_at, event, event_of, events_of}
+use Rattle.history.specs.Runs.{Before, step, chain, Precedes, Until, event, event_of, events_of}
 use Rattle.history.proofs.Clocks.{before_before, before_earlier, known, precedes_earlier, precedes_event, precedes_from, tells}
-use Rattle.history.proofs.Listing.{AlwaysAfter, Cut, left, right, Split, cut, stands_from, split, times_append, times_none, times_other, times_push, times_push_other, times_same}
-use Rattle.history.proofs.Moments.{event_below, moment, of_event, one_switch, some_switch}
+use Rattle.history.proofs.Listing.{AlwaysAfter, Cut, left, right, cut, stands_from, split, times_append, times_none, times_other, times_same}
+use Rattle.history.proofs.Moments.{event_below, moment, of_event, some_switch}
 
 stands_left : (i j : ℕ) (a b : List ℕ) → times j b ≡ 0 → AlwaysAfter i j a → AlwaysAfter i j (a ++ b)
 stands_left i j a b none-there before front rest is = way (cut a b front rest j is)

@@ -1,23 +1,22 @@
 -- Every allowed order gives the same answers and the same memory, and passes through what a switch knows. Assumes nothing.
-use Rattle.std.proofs.Common.{◌≡◌, ℕ, zero, suc, ◌+◌, ◌<◌, ◌≤◌, Bool, true, false, cond, ◌≢◌, ◌⊎◌, List, [], ◌∷◌, ◌++◌, map, length, get_or, take, drop, is_ok, Some, Ok, Err, Option, Result, sym, refl, ap, ◌∙◌, subst, subst₂, inl, inr, add-one, arith}
-use Rattle.std.proofs.lemmas.List.{append_assoc, get_or_default, get_or-map, length-append, length-map, take_all, take_at, take-map}
-use Rattle.std.proofs.lemmas.Bool.{cases_Bool, cases_eq, cases_lt}
+use Rattle.std.proofs.Common.{◌≡◌, ℕ, suc, ◌+◌, ◌<◌, ◌≤◌, true, cond, List, [], ◌∷◌, ◌++◌, map, length, get_or, take, drop, is_ok, Some, Ok, Result, sym, ap, ◌∙◌, subst, subst₂, inl, inr, add-one, arith}
+use Rattle.std.proofs.lemmas.List.{append_assoc, get_or_default, get_or-map, length-append, take_all, take_at, take-map}
+use Rattle.std.proofs.lemmas.Bool.{cases_Bool, cases_eq}
 use Rattle.table.specs.Tables.{Table, sound}
 use Rattle.table.specs.declared.fault.Fault.{Fault}
-use Rattle.step.specs.Logic.{Kind, on_words}
 use Rattle.step.specs.Nodes.{WordKind}
-use Rattle.step.specs.Records.{count_of, record_of}
+use Rattle.step.specs.Records.{record_of}
 use Rattle.step.specs.Steps.{acted_block, own_count, own_mask}
 use Rattle.history.specs.Calls.{Call, send_call, Fleet, Reply, answer, block_at, event_reply, ran}
 use Rattle.history.specs.Law.{SameAnswer}
 use Rattle.history.specs.Orders.{Allowed, New, calls_of, new_number, renamed, sends, times}
-use Rattle.history.specs.Runs.{Before, Nth, Until, answer_at, answered, call_at, event, event_of, events_of, fleet_at, no_call}
+use Rattle.history.specs.Runs.{Before, Until, answer_at, answered, call_at, event_of, fleet_at, no_call}
 use Rattle.history.proofs.Clocks.{Says, nothing, state, known, tells, until_earlier}
 use Rattle.history.proofs.Copies.{send_answer, sent_from_answer}
-use Rattle.history.proofs.Counting.{block_between, events_upto, lower_earlier}
-use Rattle.history.proofs.Listing.{Split, split, times_append, times_push, times_push_other, times_same}
+use Rattle.history.proofs.Counting.{block_between, lower_earlier}
+use Rattle.history.proofs.Listing.{split, times_append, times_push, times_push_other, times_same}
 use Rattle.history.proofs.Memory as memory
-use Rattle.history.proofs.Moments.{Kept, block, block_first, block_says, event_below, kept_new, kept_ran, moment, of_event, some_switch}
+use Rattle.history.proofs.Moments.{block, block_first, block_says, event_below, kept_new, kept_ran, of_event, some_switch}
 use Rattle.history.proofs.Sends.{number_in}
 use Rattle.history.proofs.Reruns.{Sim, Stands, at_place, doing, in_list, next_event, not_yet, rerun, same_block, sim_at}
 

@@ -1,8 +1,7 @@
 -- The words of a run stand for the values that the logic defines over its history. Assumes nothing.
-use Rattle.std.proofs.Common.{◌≡◌, ℕ, zero, suc, ◌+◌, ◌^◌, ◌<◌, ◌≤◌, Bool, true, false, cond, not, ◌&&◌, eqb, ltb, ◌≢◌, ◌⊎◌, List, [], ◌∷◌, length, get_or, take, drop, set, sym, refl, ap, ◌∙◌, subst, inl, inr, arith}
-use mathlib.Core.Path.{fun_ext}
+use Rattle.std.proofs.Common.{◌≡◌, ℕ, zero, suc, ◌<◌, true, false, cond, ◌&&◌, eqb, ◌⊎◌, List, length, get_or, drop, set, sym, refl, ap, ◌∙◌, subst, inl, inr, arith}
 use Rattle.std.proofs.lemmas.List.{get_or-set_other, get_or-set_same, length-drop, length-take-le}
-use Rattle.std.proofs.lemmas.Bool.{and_cases, and_parts, both_ways, cases_Bool, cases_eq, cond-false, cond-true, eq-eqb, eqb-true, ltb-true, ne_eqb, true≢false}
+use Rattle.std.proofs.lemmas.Bool.{and_cases, both_ways, cases_Bool, cases_eq, cond-false, cond-true, eq-eqb, ne_eqb}
 use Rattle.std.specs.List.{AllByRecursion}
 use Rattle.table.specs.Limits.{register_count}
 use Rattle.table.specs.Tables.{Table, sound}
@@ -11,10 +10,10 @@ use Rattle.step.proofs.StepMeaning.{step_meaning}
 use Rattle.step.specs.Logic.{Kind, Lawful, Values, Meaning, after, none, on_words, values_of}
 use Rattle.step.specs.Nodes.{WordKind}
 use Rattle.step.specs.Opening.{opened, start_registers}
-use Rattle.step.specs.Records.{count_of, record_of, records_length, registers_of}
+use Rattle.step.specs.Records.{record_of, records_length, registers_of}
 use Rattle.step.specs.StepLaws.{record_words}
 use Rattle.step.specs.StepLaws as laws
-use Rattle.step.specs.Steps.{Act, Fitting, acted_block, advanced, own_words}
+use Rattle.step.specs.Steps.{Act, acted_block, own_words}
 use Rattle.history.specs.Calls.{Call, set_call, send_call, receive_call, retire_call, Fleet}
 use Rattle.history.specs.Orders.{New}
 use Rattle.history.specs.Runs.{WordCall, call_at, event, event_of, fleet_at, is_at, register_at, written}
@@ -23,7 +22,7 @@ use Rattle.history.proofs.BlockSteps.{acted_fits, acted_own, advanced_other, adv
 use Rattle.history.proofs.Calling.{Does, sets, sends, receives}
 use Rattle.history.proofs.Clocks.{first, known}
 use Rattle.history.proofs.Memory.{first_records}
-use Rattle.history.proofs.Moments.{Moment, block, block_first, block_kept, fits_at, moment, of_event, of_switch}
+use Rattle.history.proofs.Moments.{block, block_first, block_kept, fits_at, moment, of_event}
 use Rattle.history.proofs.WordRuns.{acting_words}
 
 -- The registers

@@ -1,17 +1,16 @@
 -- What each call of a list does to the blocks and the carrier of a new fleet. Assumes nothing.
-use Rattle.std.proofs.Common.{◌≡◌, ℕ, zero, suc, ◌+◌, ◌*◌, ◌^◌, ◌<◌, ◌≤◌, Bool, true, false, cond, ◌&&◌, eqb, ltb, ◌≢◌, ◌⊎◌, List, [], ◌∷◌, ◌++◌, length, get_or, take, is_ok, Some, None, Ok, Err, Option, Result, sym, refl, ap, ◌∙◌, subst, inl, inr, arith}
+use Rattle.std.proofs.Common.{◌≡◌, ℕ, suc, ◌+◌, ◌*◌, ◌<◌, ◌≤◌, Bool, true, false, cond, eqb, ◌≢◌, ◌⊎◌, List, [], ◌∷◌, ◌++◌, length, get_or, take, is_ok, Some, Ok, Option, sym, refl, ap, ◌∙◌, subst, inl, inr, arith}
 use Rattle.std.proofs.ByRecursion.{All-push}
 use Rattle.std.proofs.lemmas.List.{take_all, take_more}
-use Rattle.std.proofs.lemmas.Bool.{and_parts, and_from, and_left, and_right, both_ways, cases_Bool, cases_lt, cases_eq, eqb-false, eqb-true, eq-eqb, le-ltb, lt-ltb, ltb-true, ne_eqb}
+use Rattle.std.proofs.lemmas.Bool.{and_parts, and_from, and_right, both_ways, cases_Bool, cases_lt, cases_eq, eqb-false, eqb-true, eq-eqb, lt-ltb, ltb-true}
 use Rattle.std.specs.List.{AllByRecursion}
-use Rattle.table.specs.Limits.{register_count}
 use Rattle.table.specs.Tables.{Table, sound}
 use Rattle.step.specs.Nodes.{WordKind}
 use Rattle.step.specs.Opening.{opened}
-use Rattle.step.specs.Records.{hand_length, record_of, registers_of}
-use Rattle.step.specs.Steps.{Act, Fitting, set_register, send, receive, acted_block, advanced, max_count, own_count}
-use Rattle.carriers.specs.Meanings.{Held, Meaning, copies_but, copy_under, no_space, with_copy, without_copy}
-use Rattle.history.specs.Calls.{Call, set_call, send_call, receive_call, retire_call, Fleet, Reply, answer, after_call, block_at, block_size, call_refusal, called, copy_of, event_reply, put_block, ran, stepped}
+use Rattle.step.specs.Records.{hand_length}
+use Rattle.step.specs.Steps.{Act, Fitting, send, acted_block, advanced, max_count, own_count}
+use Rattle.carriers.specs.Meanings.{Held, Meaning, copies_but, copy_under, with_copy, without_copy}
+use Rattle.history.specs.Calls.{Call, set_call, send_call, receive_call, retire_call, Fleet, answer, block_at, block_size, called, copy_of, event_reply, put_block, ran, stepped}
 use Rattle.history.specs.Orders.{New}
 use Rattle.history.specs.Runs.{answer_at, call_at, event, event_of, fleet_at, is_at, is_retire, no_call}
 use Rattle.history.proofs.BlockSteps.{Makes, makes_receive, makes_send, makes_set, copy_long, step_fits}

@@ -1,24 +1,21 @@
 -- How an allowed order runs on a new fleet: every event finds what it found in the list. Assumes nothing.
-use Rattle.std.proofs.Common.{◌≡◌, ℕ, zero, suc, ◌+◌, ◌<◌, ◌≤◌, Bool, true, false, cond, ◌||◌, eqb, ltb, ◌≢◌, ◌⊎◌, ◌↔◌, List, [], ◌∷◌, ◌++◌, map, length, get_or, take, drop, is_ok, Some, None, Option, sym, refl, ap, ◌∙◌, subst, inl, inr, arith}
+use Rattle.std.proofs.Common.{◌≡◌, ℕ, zero, suc, ◌+◌, ◌<◌, ◌≤◌, true, false, cond, eqb, ◌≢◌, ◌⊎◌, ◌↔◌, List, [], ◌∷◌, ◌++◌, map, length, get_or, take, drop, is_ok, Some, None, Option, sym, refl, ap, ◌∙◌, subst, inl, inr, arith}
 use Rattle.std.proofs.lemmas.List.{append_assoc, drop_more, length_push, map-append, take-append-drop, take_more}
-use Rattle.std.proofs.lemmas.Bool.{both_ways, cases_Bool, cases_eq, cases_lt, cond-false, cond-true, eq-eqb, lt-ltb, ne_eqb, or_from}
-use Rattle.table.specs.Limits.{register_count}
+use Rattle.std.proofs.lemmas.Bool.{both_ways, cases_Bool, cases_eq, cases_lt, cond-false, cond-true, lt-ltb, ne_eqb, or_from}
 use Rattle.table.specs.Tables.{Table, sound}
-use Rattle.table.specs.declared.fault.Reason.{Reason}
 use Rattle.step.specs.Nodes.{WordKind}
 use Rattle.step.specs.Steps.{Act, set_register, send, receive, acted_block, advanced, max_count, own_count}
-use Rattle.carriers.specs.Meanings.{copy_under, last_number, no_space, with_copy}
-use Rattle.history.specs.Calls.{Call, set_call, send_call, receive_call, retire_call, Fleet, block_at, call_refusal, called, copy_of, event_refusal, held_or, ran, stepped}
+use Rattle.carriers.specs.Meanings.{copy_under, last_number, with_copy}
+use Rattle.history.specs.Calls.{Call, set_call, send_call, receive_call, Fleet, block_at, call_refusal, called, copy_of, held_or, ran, stepped}
 use Rattle.history.specs.Orders.{Allowed, New, is_send, new_number, renamed, sends, times}
-use Rattle.history.specs.Runs.{Before, step, chain, Precedes, call_at, event, event_of, fleet_at, is_at, is_retire}
-use Rattle.history.proofs.Calling.{Does, sets, sends as sends_one, receives, Done, called_ok, done_receive, done_send, done_set, event_free}
+use Rattle.history.specs.Runs.{Before, step, chain, Precedes, call_at, event, event_of, fleet_at, is_retire}
+use Rattle.history.proofs.Calling.{Does, sets, sends as sends_one, receives, Done, done_receive, done_send, done_set, event_free}
 use Rattle.history.proofs.Carrier.{with_next, with_other}
-use Rattle.history.proofs.Clocks.{Hears, look_back}
-use Rattle.history.proofs.Copies.{From, Sent, from, send_carrier, sent_answer}
+use Rattle.history.proofs.Copies.{Sent, from, send_carrier, sent_answer}
 use Rattle.history.proofs.Counting.{block_between, same_switch}
-use Rattle.history.proofs.Listing.{AlwaysAfter, Split, always_after, split, times_append, times_none, times_push, times_push_other, times_same}
+use Rattle.history.proofs.Listing.{AlwaysAfter, always_after, split, times_append, times_none, times_push, times_push_other, times_same}
 use Rattle.history.proofs.Memory as memory
-use Rattle.history.proofs.Moments.{Carries, unmoved, puts, retires, Kept, Moment, block, block_first, carrier, carrier_is, carries, does_makes, event_below, kept_new, kept_ran, moment, of_event, of_switch, one_switch, other_block, own_block, ran_push, some_switch}
+use Rattle.history.proofs.Moments.{Carries, unmoved, puts, retires, Kept, Moment, block, block_first, carrier, carrier_is, carries, event_below, kept_new, kept_ran, moment, of_event, one_switch, other_block, own_block, ran_push, some_switch}
 use Rattle.history.proofs.Sends.{number_in, order_sends, sends_append, sends_none, sends_one_more, sends_push}
 
 module _ (k : WordKind) (t : Table) (f : Fleet) (calls : List Call) (is_sound : sound t ≡ true) (new : New k t f) (order : List ℕ) (allowed : Allowed k t f calls order) where

@@ -1,15 +1,15 @@
 -- How many sends an order has, and the numbers that they get. Assumes nothing.
-use Rattle.std.proofs.Common.{◌≡◌, ℕ, zero, suc, ◌+◌, ◌<◌, ◌≤◌, Bool, true, false, cond, not, ◌&&◌, ◌||◌, eqb, ◌≢◌, ◌⊎◌, List, [], ◌∷◌, ◌++◌, length, is_ok, Some, None, Option, sym, refl, ap, ◌∙◌, subst, inl, inr, arith}
+use Rattle.std.proofs.Common.{◌≡◌, ℕ, zero, suc, ◌+◌, ◌≤◌, Bool, true, false, cond, eqb, ◌≢◌, ◌⊎◌, List, [], ◌∷◌, ◌++◌, length, is_ok, Some, None, Option, sym, refl, ap, ◌∙◌, subst, inl, inr, arith}
 use Rattle.std.proofs.lemmas.Bool.{and_from, and_parts, both_ways, cases_Bool, cases_eq, cases_lt, cond-false, cond-true, eq-eqb, eqb-false, eqb-true, or_parts}
 use Rattle.table.specs.Tables.{Table, sound}
 use Rattle.step.specs.Nodes.{WordKind}
 use Rattle.carriers.specs.Meanings.{last_number, no_space}
 use Rattle.history.specs.Calls.{Call, set_call, send_call, receive_call, retire_call, Fleet, answer, called}
 use Rattle.history.specs.Orders.{Allowed, New, answers_number, is_send, new_number, sends, sent_as, times}
-use Rattle.history.specs.Runs.{answer_at, answered, call_at, event, event_of, fleet_at, is_at}
+use Rattle.history.specs.Runs.{call_at, event, fleet_at, is_at}
 use Rattle.history.proofs.Calling.{clears, event_room, ok_none}
 use Rattle.history.proofs.Copies.{Sent, next_more, sent_answer, sent_from_answer, sent_next, sent_once}
-use Rattle.history.proofs.Listing.{times_append, times_none, times_other, times_same}
+use Rattle.history.proofs.Listing.{times_none, times_other, times_same}
 use Rattle.history.proofs.Moments.{Carries, unmoved, puts, retires, carrier, carrier_first, carrier_is, carries, event_at, event_below, fleet_past, fleet_step, kept_at, of_event}
 
 -- a call that is a send, with its switch

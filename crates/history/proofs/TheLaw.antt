@@ -1,11 +1,11 @@
 -- The law of a list of calls on a new fleet, for every allowed order. Assumes nothing.
-use Rattle.std.proofs.Common.{◌≡◌, ℕ, suc, ◌<◌, ◌≤◌, true, List, ◌∷◌, ◌++◌, length, Result, sym, ap, ◌∙◌}
+use Rattle.std.proofs.Common.{◌≡◌, ℕ, ◌<◌, true, List, length, Result, sym, ap, ◌∙◌}
 use Rattle.std.specs.List.{AllByRecursion}
 use Rattle.table.specs.Tables.{Table, sound}
 use Rattle.table.specs.declared.fault.Fault.{Fault}
 use Rattle.step.specs.Logic.{Kind, Lawful, on_words}
 use Rattle.history.specs.Calls.{Call, Fleet, Reply, ran}
-use Rattle.history.specs.Law.{Begins, PassedThrough}
+use Rattle.history.specs.Law.{PassedThrough}
 use Rattle.history.specs.Orders.{New}
 use Rattle.history.specs.AnsweredLaw.{AnsweredLaw, AnsweredSame}
 use Rattle.history.specs.Runs.{WordCall, answer_at, event}

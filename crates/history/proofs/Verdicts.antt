@@ -1,17 +1,15 @@
 -- Counts are happens-before, and an event's mask is the logic's verdict over the history. Assumes nothing.
-use Rattle.std.proofs.Common.{◌≡◌, ℕ, zero, suc, ◌+◌, ◌-◌, ◌<◌, ◌≤◌, Bool, true, false, cond, not, ◌&&◌, eqb, ltb, ◌≢◌, ◌⊎◌, ◌↔◌, List, [], ◌∷◌, length, get_or, drop, Result, sym, refl, ap, ◌∙◌, subst, inl, inr, add-one, arith}
-use mathlib.Core.Path.{fun_ext}
-use Rattle.std.proofs.lemmas.Bool.{and_cases, and_from, and_left, and_parts, both_ways, cases_Bool, cases_eq, cond-false, cond-true, eq-eqb, eqb-true, ltb-true, ne_eqb}
+use Rattle.std.proofs.Common.{◌≡◌, ℕ, zero, suc, ◌+◌, ◌-◌, ◌<◌, ◌≤◌, Bool, true, not, ◌&&◌, eqb, ltb, ◌≢◌, ◌⊎◌, ◌↔◌, List, [], ◌∷◌, length, get_or, drop, Result, sym, refl, ap, ◌∙◌, subst, inl, inr, add-one, arith}
+use Rattle.std.proofs.lemmas.Bool.{and_left, and_parts, cases_Bool, cases_eq, ltb-true}
 use Rattle.std.specs.List.{AllByRecursion}
 use Rattle.readings.specs.Ports.{has}
 use Rattle.table.proofs.Soundness.{sound_parts}
 use Rattle.table.specs.Nodes.{is_truth, rule_fits, truth_node}
 use Rattle.table.specs.Tables.{Table, every, sound}
 use Rattle.table.specs.declared.fault.Fault.{Fault}
-use Rattle.table.specs.declared.node.Node.TheVariants.{Truth}
 use Rattle.table.specs.declared.node.Rule.{Rule}
 use Rattle.step.proofs.Laws.{step_law}
-use Rattle.step.specs.Logic.{Kind, Lawful, Values, Meaning, after, none, on_words, values_of}
+use Rattle.step.specs.Logic.{Kind, Lawful, Values, after, on_words, values_of}
 use Rattle.step.specs.Nodes.{WordKind}
 use Rattle.step.specs.Opening.{start_registers}
 use Rattle.step.specs.Records.{count_of, record_of}
@@ -24,9 +22,9 @@ use Rattle.history.specs.Runs.{Heard, Latest, Nth, Until, WordCall, answer_at, e
 use Rattle.history.proofs.Agreement.{Agree, agree_first, agree_later, both_after, node_of}
 use Rattle.history.proofs.BlockSteps.{acted_count, acted_fits, step_own}
 use Rattle.history.proofs.Clocks.{Says, nothing, state, Tells, first, known, tells, until_earlier}
-use Rattle.history.proofs.Counting.{Last, never, last, block_between, events_one, last_event, numbered, own_count_is, same_number}
+use Rattle.history.proofs.Counting.{Last, never, last, block_between, events_one, last_event, numbered, own_count_is}
 use Rattle.history.proofs.Judging.{judged, judged_first, values_in}
-use Rattle.history.proofs.Moments.{block, block_first, block_says, event_below, fits_at, moment, of_event, one_switch, some_switch}
+use Rattle.history.proofs.Moments.{block, block_first, block_says, fits_at, moment, one_switch}
 use Rattle.history.proofs.WordRuns.{acting_words}
 
 every_at : (t : Table) (rs : List Rule) (i : ℕ) (d : Rule) → every (rule_fits t.switches t.nodes) rs ≡ true → i < length rs → rule_fits t.switches t.nodes (get_or rs i d) ≡ true

@@ -1,8 +1,7 @@
 -- All words of a run's memory and copies are below 2³². Assumes nothing.
-use Rattle.std.proofs.Common.{◌≡◌, ℕ, zero, suc, ◌+◌, ◌*◌, ◌^◌, ◌<◌, ◌≤◌, Bool, true, false, cond, not, ◌&&◌, eqb, ◌≢◌, List, [], ◌∷◌, ◌++◌, length, get_or, take, drop, is_ok, Some, None, Option, sym, refl, ap, ◌∙◌, subst, inl, inr, arith}
+use Rattle.std.proofs.Common.{◌≡◌, ℕ, zero, suc, ◌+◌, ◌*◌, ◌^◌, ◌<◌, true, not, ◌&&◌, eqb, ◌≢◌, List, [], ◌∷◌, ◌++◌, length, get_or, take, drop, is_ok, sym, refl, subst, inl, inr, arith}
 use lib.Seq.{paste}
-use Rattle.std.proofs.ByRecursion.{All-append, All-drop, All-push, All-set, All-take, All-get_or}
-use Rattle.std.proofs.lemmas.List.{length-replicate}
+use Rattle.std.proofs.ByRecursion.{All-append, All-drop, All-push, All-set, All-take}
 use Rattle.std.proofs.lemmas.Bool.{cases_Bool, cond_both, eq-eqb}
 use Rattle.std.specs.List.{AllByRecursion}
 use Rattle.table.proofs.Soundness.{sound_limits, sound_parts}
@@ -12,15 +11,15 @@ use Rattle.step.proofs.OpeningMeaning.{opened_small}
 use Rattle.step.proofs.StepMeaning.{own_small}
 use Rattle.step.specs.Logic.{Kind, Lawful, on_words}
 use Rattle.step.specs.Opening.{opened}
-use Rattle.step.specs.Records.{count_of, hand_records, newer, put_record, record_length, record_of, record_start, records_length}
+use Rattle.step.specs.Records.{hand_records, newer, record_length, record_of, record_start, records_length}
 use Rattle.step.specs.StepLaws.{Words}
-use Rattle.step.specs.Steps.{Act, Fitting, set_register, send, receive, acted_block, advanced, max_count, own_count, own_words, taken, taken_one}
-use Rattle.carriers.specs.Meanings.{Held, copy_under}
-use Rattle.history.specs.Calls.{Call, set_call, send_call, receive_call, retire_call, Fleet, answer, block_at, block_size, called, copy_of, first_blocks, put_block, ran, stepped}
+use Rattle.step.specs.Steps.{Act, Fitting, set_register, send, receive, acted_block, advanced, max_count, own_count, own_words, taken}
+use Rattle.carriers.specs.Meanings.{Held}
+use Rattle.history.specs.Calls.{Call, set_call, send_call, receive_call, retire_call, Fleet, answer, block_at, block_size, called, copy_of, first_blocks, ran, stepped}
 use Rattle.history.specs.Orders.{New}
 use Rattle.history.specs.Runs.{WordCall, call_at, fleet_at, no_call}
 use Rattle.history.proofs.BlockSteps.{Makes, acted_count, makes_send}
-use Rattle.history.proofs.Calling.{Does, sets, sends, receives, Done, Doing, called_ok, called_refused, done, ok_none}
+use Rattle.history.proofs.Calling.{Does, sets, sends, receives, Doing, called_ok, called_refused, done, ok_none}
 use Rattle.history.proofs.Carrier.{all_but, all_under}
 use Rattle.history.proofs.Moments.{Kept, block, block_is, does_makes, kept_at, kept_called, kept_new}
 

@@ -1,5 +1,5 @@
 -- The law of a list of calls as they really went: with the answers that they gave, and the memory that they left. Assumes nothing.
-use Rattle.std.specs.Prelude.{◌≡◌, ℕ, ◌<◌, ◌≤◌, true, not, ◌&&◌, List, length, get_or, Some, Ok, Err, Result, ◌==◌, nat_lt, slice_index_or}
+use Rattle.std.specs.Prelude.{◌≡◌, ℕ, ◌<◌, true, not, ◌&&◌, List, length, get_or, Some, Ok, Err, Result, ◌==◌, nat_lt, slice_index_or}
 use Rattle.readings.specs.Ports.{has}
 use Rattle.table.specs.Tables.{Table}
 use Rattle.table.specs.declared.fault.Fault.{Fault}

@@ -1,9 +1,8 @@
 -- The calls of a live fleet, by what they answer and what they leave. Assumes nothing.
-use Rattle.std.specs.Prelude.{ℕ, zero, suc, ◌+◌, ◌*◌, cond, List, [], ◌∷◌, ◌++◌, length, take, drop, Some, None, Ok, Option, Result, ◌==◌, nat_lt}
+use Rattle.std.specs.Prelude.{ℕ, zero, suc, ◌+◌, ◌*◌, cond, List, [], ◌∷◌, ◌++◌, length, take, drop, Some, None, Option, Result, ◌==◌, nat_lt}
 use Rattle.std.proofs.Math.Seq.{paste}
 use Rattle.table.specs.Limits.{register_count}
 use Rattle.table.specs.Tables.{Table}
-use Rattle.table.specs.Wire.{refuse}
 use Rattle.table.specs.declared.fault.Fault.{Fault}
 use Rattle.table.specs.declared.fault.Reason.{Reason}
 use Rattle.table.specs.declared.fault.Reason.TheVariants as why

@@ -1,5 +1,5 @@
 -- The law of a run, for every allowed order. Assumes nothing.
-use Rattle.std.specs.Prelude.{◌≡◌, ℕ, suc, ◌+◌, ◌<◌, ◌≤◌, Bool, true, not, ◌&&◌, ◌↔◌, List, [], ◌∷◌, ◌++◌, length, get_or, take, Ok, Err, Result, ◌==◌, nat_lt, slice_index, slice_index_or}
+use Rattle.std.specs.Prelude.{◌≡◌, ℕ, suc, ◌<◌, ◌≤◌, true, not, ◌&&◌, ◌↔◌, List, ◌∷◌, ◌++◌, length, get_or, take, Ok, Err, Result, ◌==◌, nat_lt, slice_index, slice_index_or}
 use Rattle.readings.specs.Ports.{has}
 use Rattle.table.specs.Tables.{Table}
 use Rattle.table.specs.declared.fault.Fault.{Fault}
@@ -9,7 +9,7 @@ use Rattle.step.specs.Opening.{start_registers}
 use Rattle.step.specs.Records.{count_of, record_of}
 use Rattle.history.specs.Calls.{Call, Fleet, Reply, block_at, ran}
 use Rattle.history.specs.Orders.{Allowed, New, calls_of, sends}
-use Rattle.history.specs.Runs.{Before, Heard, Latest, Nth, answer_at, event, event_of, fleet_at, register_at}
+use Rattle.history.specs.Runs.{Before, Heard, Latest, Nth, answer_at, event, fleet_at, register_at}
 
 -- the broken mask of an answer
 abbrev pub mask_of : Result Reply Fault → ℕ

@@ -1,9 +1,8 @@
 -- The allowed orders of a list's events, and how one runs. Assumes nothing.
-use Rattle.std.specs.Prelude.{◌≡◌, ℕ, zero, suc, ◌+◌, ◌<◌, ◌≤◌, Bool, true, false, cond, ◌&&◌, List, [], ◌∷◌, ◌++◌, map, length, Some, None, Option, ◌==◌}
+use Rattle.std.specs.Prelude.{◌≡◌, ℕ, ◌+◌, ◌≤◌, Bool, true, false, cond, ◌&&◌, List, [], ◌∷◌, ◌++◌, map, length, Some, None, Option, ◌==◌}
 use Rattle.table.specs.Tables.{Table}
 use Rattle.step.specs.Nodes.{WordKind}
 use Rattle.step.specs.Records.{hand_length}
-use Rattle.carriers.specs.Meanings.{Meaning}
 use Rattle.history.specs.Calls.{Call, set_call, send_call, receive_call, retire_call, Fleet, first_memory}
 use Rattle.history.specs.Runs.{answer_at, answered, call_at, event, Precedes}
 

@@ -1,8 +1,7 @@
 -- The worked cases: the listing of ten calls on the worked table of three switches, and those of the parts below.
 -- Assumes nothing.
-use Rattle.std.specs.Prelude.{◌≡◌, ℕ, suc, List, [], ◌∷◌, map, length, take, replicate, Some, None, Ok, Result}
+use Rattle.std.specs.Prelude.{◌≡◌, ℕ, List, [], ◌∷◌, take, replicate, Some, None, Ok, Result}
 use Rattle.readings.specs.Worked.{WorkedReadings}
-use Rattle.table.specs.Tables.{Table}
 use Rattle.table.specs.Wire.{refuse}
 use Rattle.table.specs.Worked.{worked_table}
 use Rattle.table.specs.declared.fault.Fault.{Fault}

@@ -1,6 +1,6 @@
 -- Reading a call's bytes and writing them undo each other. Assumes nothing.
-use Rattle.std.proofs.Common.{◌≡◌, ℕ, ◌+◌, ◌^◌, ◌<◌, true, cond, eqb, List, ◌++◌, length, Ok, Err, Result, sym, refl, ap, ◌∙◌, subst, inl, inr, arith}
-use Rattle.std.proofs.lemmas.Bool.{and_from, and_parts, cases_Bool, cond-false, cond-true, eq-eqb, eqb-true, lt-ltb}
+use Rattle.std.proofs.Common.{◌≡◌, ℕ, ◌+◌, ◌^◌, true, cond, eqb, List, length, Ok, Err, Result, sym, refl, ◌∙◌, subst, inl, inr, arith}
+use Rattle.std.proofs.lemmas.Bool.{and_from, cases_Bool, cond-false, cond-true, eqb-true, lt-ltb}
 use Rattle.fleet.specs.declared.call.Call.{Call}
 use Rattle.fleet.specs.declared.call.Call.TheVariants.{Set, Send, Receive, Retire}
 use Rattle.listing.specs.Events.{call_at, call_bytes, call_size, call_sound, call_words, calls_from, receive_at, rest_at, retire_at, send_at, set_at, unused_at}
@@ -8,7 +8,7 @@ use Rattle.table.proofs.Arrays.{Elements}
 use Rattle.table.proofs.Words.{Stands, stands_append, stands_left, stands_right, and_then_parts, and_then_from, cond_parts, field_from, field_stands, ok_same}
 use Rattle.table.specs.TableLaws.{Bytes}
 use Rattle.table.specs.Tables.{every, is_word, items_from}
-use Rattle.table.specs.Wire.{and_then, field, refuse, word_bytes}
+use Rattle.table.specs.Wire.{field, refuse, word_bytes}
 use Rattle.table.specs.declared.fault.Fault.{Fault}
 use Rattle.table.specs.declared.fault.Reason.TheVariants as why
 

@@ -1,7 +1,7 @@
 -- Reading the bytes of calls and writing them undo each other. Assumes nothing.
-use Rattle.std.proofs.Common.{◌≡◌, ℕ, ◌+◌, ◌*◌, ◌≤◌, true, leb, List, [], ◌++◌, length, get_or, take, drop, Ok, sym, refl, ap, ◌∙◌, subst, arith, length-append, length-drop}
+use Rattle.std.proofs.Common.{◌≡◌, ℕ, ◌+◌, ◌*◌, ◌≤◌, true, List, [], length, get_or, drop, Ok, sym, refl, ap, ◌∙◌, subst, arith, length-drop}
 use Rattle.std.proofs.lemmas.List.{ext_get_or, get_or-drop}
-use Rattle.std.proofs.lemmas.Bool.{cond-true, eq-eqb, eqb-true, leb-true, le-leb}
+use Rattle.std.proofs.lemmas.Bool.{cond-true, eqb-true, leb-true, le-leb}
 use Rattle.std.specs.List.{flat_map}
 use Rattle.fleet.specs.declared.call.Call.{Call}
 use Rattle.listing.specs.EventLaws.{EventLaws}
@@ -10,7 +10,7 @@ use Rattle.listing.proofs.CallCodec.{call_elements, call_length}
 use Rattle.listing.proofs.EventFaults.{refuses_first}
 use Rattle.listing.proofs.EventSteps.{events_done}
 use Rattle.table.proofs.Arrays.{array_all, array_only, length_joined}
-use Rattle.table.proofs.Words.{Stands, stands_append, stands_left, stands_right, and_then_parts, and_then_from, cond_parts, field_from, field_stands, ok_same}
+use Rattle.table.proofs.Words.{Stands, stands_append, stands_left, stands_right, and_then_parts, and_then_from, cond_parts, field_from, field_stands}
 use Rattle.table.specs.TableLaws.{Bytes}
 use Rattle.table.specs.Tables.{array_bytes, every}
 use Rattle.table.specs.Wire.{field, word_bytes}

@@ -1,6 +1,6 @@
 -- The calls' refusal is the first fault of their conditions. Assumes nothing.
-use Rattle.std.proofs.Common.{◌≡◌, ℕ, ◌+◌, ◌*◌, ◌≤◌, Bool, true, false, cond, not, ◌||◌, eqb, leb, List, [], ◌∷◌, ◌++◌, length, Some, None, Ok, Err, Result, sym, refl, ap, ◌∙◌, subst, inl, inr, arith}
-use Rattle.std.proofs.lemmas.Bool.{and_parts, cases_Bool, cond-false, cond-true, eqb-false, eqb-true, leb-true}
+use Rattle.std.proofs.Common.{◌≡◌, ℕ, ◌+◌, ◌*◌, true, false, cond, eqb, leb, List, [], ◌∷◌, length, Ok, Result, sym, refl, ◌∙◌, subst, inl, inr, arith}
+use Rattle.std.proofs.lemmas.Bool.{and_parts, cases_Bool, cond-false, eqb-false, eqb-true, leb-true}
 use Rattle.fleet.specs.declared.call.Call.{Call}
 use Rattle.fleet.specs.declared.call.Call.TheVariants.{Set, Send, Receive, Retire}
 use Rattle.listing.specs.EventLaws.{allowed, call_conditions, event_conditions, operand_conditions, present, word_conditions}

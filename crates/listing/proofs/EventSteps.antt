@@ -1,5 +1,5 @@
 -- What reading the calls answers, from what reading their parts does. Assumes nothing.
-use Rattle.std.proofs.Common.{◌≡◌, ℕ, ◌+◌, ◌*◌, ◌<◌, ◌≤◌, cond, leb, List, [], length, Ok, Err, Result, sym, refl, ap, ◌∙◌, inl, inr, arith}
+use Rattle.std.proofs.Common.{◌≡◌, ℕ, ◌+◌, ◌<◌, cond, leb, List, [], length, Ok, Err, Result, sym, refl, ap, ◌∙◌, inl, inr, arith}
 use Rattle.std.proofs.lemmas.Bool.{cases_lt, cond-true, cond-false, eq-eqb, le-leb, lt-leb, ne_eqb}
 use Rattle.fleet.specs.declared.call.Call.{Call}
 use Rattle.listing.specs.Events.{call_at, calls_end, calls_from, count_at, events_at, rest_at}

@@ -6,7 +6,6 @@ use Rattle.std.proofs.lemmas.List.{length-map}
 use Rattle.std.proofs.lemmas.Bool.{and_from, and_parts, cases_Bool, cond-false, cond-true, eq-eqb, le-leb}
 use Rattle.table.proofs.Soundness.{sound_parts}
 use Rattle.table.specs.Tables.{Table, sound}
-use Rattle.table.specs.Wire.{refuse}
 use Rattle.table.specs.declared.fault.Fault.{Fault}
 use Rattle.table.specs.declared.fault.Reason.{Reason}
 use Rattle.table.specs.declared.fault.Reason.TheVariants as why
@@ -22,7 +21,7 @@ use Rattle.history.specs.Calls as history
 use Rattle.history.specs.Calls.{Fleet, first_memory, fleet_of, ran}
 use Rattle.history.specs.AnsweredLaw.{AnsweredLaw}
 use Rattle.history.specs.Orders.{New}
-use Rattle.fleet.specs.FleetCalls.{call_of, or_else, unready_by}
+use Rattle.fleet.specs.FleetCalls.{call_of}
 use Rattle.fleet.specs.FleetRuns.{Ran, answers, listed, replies_of, run_refusal, said_by}
 use Rattle.fleet.specs.Shapes.{Opened, fits, shaped, shaped_by, state, unused}
 use Rattle.fleet.specs.declared.call.Call.{Call}

@@ -1,5 +1,5 @@
 -- The calls of a rehearsal file: their bytes, and what reading the bytes answers. Assumes nothing.
-use Rattle.std.specs.Prelude.{ℕ, ◌+◌, ◌*◌, Bool, true, cond, ◌&&◌, List, [], ◌++◌, length, Ok, Result, ◌==◌, nat_le}
+use Rattle.std.specs.Prelude.{ℕ, ◌+◌, ◌*◌, Bool, cond, ◌&&◌, List, [], ◌++◌, length, Ok, Result, ◌==◌, nat_le}
 use Rattle.fleet.specs.declared.call.Call.{Call}
 use Rattle.fleet.specs.declared.call.Call.TheVariants.{Set, Send, Receive, Retire}
 use Rattle.table.specs.Tables.{array_bytes, is_word, items_from}

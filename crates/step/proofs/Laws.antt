@@ -1,5 +1,5 @@
 -- The laws of steps and openings, together. Assumes nothing.
-use Rattle.std.proofs.Common.{◌≡◌, ℕ, suc, ◌^◌, ◌<◌, Bool, true, false, not, ◌&&◌, eqb, ltb, List, [], ◌∷◌, length, get_or, sym, refl, ap, ◌∙◌, w32, Fits}
+use Rattle.std.proofs.Common.{◌≡◌, ℕ, suc, ◌<◌, Bool, true, false, not, ◌&&◌, eqb, ltb, List, [], ◌∷◌, length, get_or, refl, ap, ◌∙◌, w32, Fits}
 use Rattle.readings.specs.Ports.{has}
 use Rattle.table.specs.Tables.{Table, sound}
 use Rattle.step.specs.Logic.{Kind, Lawful, on_words}

@@ -1,5 +1,5 @@
 -- What working out the words of a block needs, from a sound table. Assumes nothing.
-use Rattle.std.proofs.Common.{◌≡◌, ℕ, ◌+◌, ◌-◌, ◌*◌, ◌<◌, ◌≤◌, true, List, [], length, get_or, take, drop, sym, refl, ap, ◌∙◌, subst, zero-add, arith, length-drop, length-take}
+use Rattle.std.proofs.Common.{◌≡◌, ℕ, ◌+◌, ◌-◌, ◌*◌, ◌<◌, ◌≤◌, true, List, [], length, get_or, take, drop, sym, ap, ◌∙◌, subst, zero-add, arith, length-drop}
 use Rattle.std.proofs.lemmas.List.{length-take-le}
 use Rattle.table.specs.Limits.{max_rules, max_nodes, register_count}
 use Rattle.table.specs.Tables.{Table, sound}

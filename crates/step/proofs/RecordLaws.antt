@@ -1,12 +1,12 @@
 -- Records, and what a write to one leaves of the others. Assumes nothing.
-use Rattle.std.proofs.Common.{◌≡◌, ℕ, zero, suc, ◌+◌, ◌-◌, ◌*◌, ◌<◌, ◌≤◌, Bool, true, false, cond, not, ◌&&◌, eqb, ◌≢◌, List, [], ◌∷◌, ◌++◌, length, get_or, take, drop, set, sym, refl, ap, ◌∙◌, ⊎_elim, add-one, arith}
+use Rattle.std.proofs.Common.{◌≡◌, ℕ, zero, suc, ◌+◌, ◌-◌, ◌<◌, ◌≤◌, Bool, true, false, cond, not, ◌&&◌, eqb, ◌≢◌, List, [], ◌∷◌, ◌++◌, length, take, drop, set, sym, refl, ap, ◌∙◌, ⊎_elim, add-one, arith}
 use lib.Seq.{paste}
 use borrow.Author.Tests.{eqb-false}
 use Rattle.std.proofs.lemmas.List.Edits.{length-paste, drop-paste}
-use Rattle.std.proofs.lemmas.List.{append_assoc, length-append, length-take-le, length-drop, length-set, drop-append-le, take-append-le, drop-take, take-take, drop-drop, drop_at, take_at, set_split}
+use Rattle.std.proofs.lemmas.List.{append_assoc, length-append, length-take-le, length-drop, drop-append-le, take-append-le, drop-take, take-take, drop-drop, drop_at, take_at, set_split}
 use Rattle.std.proofs.str.Laws.{order}
 use Rattle.table.specs.Limits.{register_count}
-use Rattle.step.specs.Records.{record_length, record_start, records_length, record_of, put_record, registers_of, count_of, newer}
+use Rattle.step.specs.Records.{record_length, record_start, records_length, record_of, put_record, registers_of, newer}
 use Rattle.step.specs.Steps.{taken, taken_one}
 use Rattle.step.proofs.Rows.{row_inside}
 

@@ -1,5 +1,5 @@
 -- What a sound table's nodes and rules name. Assumes nothing.
-use Rattle.std.proofs.Common.{◌≡◌, ℕ, suc, ◌+◌, Bool, true, false, ◌&&◌, ltb, List, [], ◌∷◌, ◌++◌, length, sym, refl, ap, ◌∙◌, add-one, arith}
+use Rattle.std.proofs.Common.{◌≡◌, ℕ, suc, Bool, true, ◌&&◌, ltb, List, [], ◌∷◌, ◌++◌, length, sym, refl, ap, ◌∙◌, add-one}
 use Rattle.std.proofs.lemmas.List.{length_push}
 use Rattle.table.specs.Nodes.{truth_node, reading_node, node_fits, rule_fits}
 use Rattle.table.specs.Tables.{node_holds, nodes_sound, every}

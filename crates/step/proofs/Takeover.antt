@@ -1,5 +1,5 @@
 -- Taking over records one after another. Assumes nothing.
-use Rattle.std.proofs.Common.{◌≡◌, ℕ, suc, ◌+◌, List, sym, refl, ap, add-one}
+use Rattle.std.proofs.Common.{◌≡◌, ℕ, ◌+◌, List, sym, refl, ap, add-one}
 use Rattle.step.specs.Steps.{taken, taken_one}
 
 pub taken_none : (m s : ℕ) (copy block : List ℕ) → block ≡ taken m s copy block 0

@@ -1,9 +1,8 @@
 -- The block that a switch starts with. Assumes nothing.
-use Rattle.std.specs.Prelude.{ℕ, zero, suc, ◌+◌, ◌*◌, cond, List, [], ◌∷◌, length, take, drop, replicate, Some, None, Ok, Option, Result, ◌==◌, nat_lt, slice_set}
+use Rattle.std.specs.Prelude.{ℕ, zero, suc, ◌+◌, ◌*◌, cond, List, [], ◌∷◌, length, take, drop, replicate, Some, None, Option, Result, ◌==◌, nat_lt, slice_set}
 use Rattle.std.proofs.Math.Seq.{paste}
 use Rattle.table.specs.Limits.{register_count}
 use Rattle.table.specs.Tables.{Table}
-use Rattle.table.specs.Wire.{refuse}
 use Rattle.table.specs.declared.fault.Fault.{Fault}
 use Rattle.table.specs.declared.fault.Reason.{Reason}
 use Rattle.table.specs.declared.fault.Reason.TheVariants as why

@@ -1,14 +1,14 @@
 -- What a step and an opening do, in the logic's words. Assumes nothing.
-use Rattle.std.specs.Prelude.{◌≡◌, ℕ, suc, ◌+◌, ◌^◌, ◌<◌, true, cond, not, ◌&&◌, List, length, drop, Result, ◌==◌, nat_lt, slice_index, slice_index_or}
+use Rattle.std.specs.Prelude.{◌≡◌, ℕ, ◌^◌, ◌<◌, cond, not, ◌&&◌, List, length, drop, Result, ◌==◌, nat_lt, slice_index, slice_index_or}
 use Rattle.std.specs.List.{AllByRecursion}
 use Rattle.readings.specs.Ports.{has}
-use Rattle.table.specs.Tables.{Table, sound}
+use Rattle.table.specs.Tables.{Table}
 use Rattle.table.specs.declared.fault.Fault.{Fault}
 use Rattle.table.specs.declared.node.Rule.{Rule}
-use Rattle.step.specs.Logic.{Kind, Lawful, Values, values_of, on_words, none, after, Meaning}
+use Rattle.step.specs.Logic.{Kind, Values, values_of, on_words, none, after, Meaning}
 use Rattle.step.specs.Opening.{open_refusal, opened, start_registers}
 use Rattle.step.specs.Records.{count_of, record_of, registers_of}
-use Rattle.step.specs.Steps.{Fitting, answer_of, mask, own_words}
+use Rattle.step.specs.Steps.{answer_of, mask, own_words}
 
 -- the words of record j, after its count
 abbrev pub record_words : ℕ → List ℕ → ℕ → List ℕ

@@ -1,5 +1,5 @@
 -- One switch's step, over the words of its block. Assumes nothing.
-use Rattle.std.specs.Prelude.{◌≡◌, ℕ, zero, suc, ◌+◌, ◌-◌, ◌*◌, ◌^◌, ◌<◌, Bool, true, cond, not, ◌&&◌, List, [], ◌∷◌, ◌++◌, length, Some, None, Ok, Option, Result, ◌==◌, nat_lt, slice_index, slice_set}
+use Rattle.std.specs.Prelude.{◌≡◌, ℕ, zero, suc, ◌+◌, ◌*◌, ◌<◌, Bool, true, cond, not, ◌&&◌, List, [], ◌∷◌, ◌++◌, length, Some, None, Ok, Option, Result, ◌==◌, nat_lt, slice_index, slice_set}
 use Rattle.table.specs.Limits.{register_count}
 use Rattle.table.specs.Tables.{Table}
 use Rattle.table.specs.Wire.{refuse}
@@ -10,7 +10,7 @@ use Rattle.table.specs.declared.node.Node.{Node}
 use Rattle.table.specs.declared.node.Rule.{Rule}
 use Rattle.step.specs.declared.advance.Outcome.{Outcome}
 use Rattle.step.specs.Nodes.{WordKind, Sight, later, node_word}
-use Rattle.step.specs.Records.{block_length, hand_length, record_start, records_length, record_of, put_record, count_of, newer, registers_of, hand_records}
+use Rattle.step.specs.Records.{block_length, hand_length, records_length, record_of, put_record, count_of, newer, registers_of, hand_records}
 
 -- what an event does before the own words are worked out
 pub data Act : Type 0 where

@@ -1,5 +1,5 @@
 -- Truths, and the words that stand for them. Assumes nothing.
-use Rattle.std.specs.Prelude.{ℕ, Bool, true, false, cond, not, ◌&&◌, ◌||◌, ◌==◌}
+use Rattle.std.specs.Prelude.{ℕ, Bool, cond, not, ◌||◌, ◌==◌}
 use Rattle.std.specs.Bool.{beq}
 
 -- a word other than 0 reads as true

@@ -1,10 +1,10 @@
 -- What a checked table's place is filled with. Assumes nothing.
-use Rattle.std.proofs.Common.{◌≡◌, ℕ, suc, ◌+◌, ◌-◌, ◌*◌, ◌≤◌, true, List, [], ◌∷◌, length, get_or, take, Ok, sym, refl, ap, ◌∙◌, subst, arith, w8, Fits}
+use Rattle.std.proofs.Common.{◌≡◌, ℕ, suc, ◌+◌, ◌-◌, ◌*◌, ◌≤◌, true, List, [], ◌∷◌, length, get_or, take, Ok, sym, ap, ◌∙◌, arith, w8, Fits}
 use Rattle.table.specs.Figures.{table_with, Within}
 use Rattle.table.specs.TableLaws.{Bytes}
 use Rattle.std.proofs.lemmas.List.{length-take-le}
 use Rattle.table.specs.Limits.{register_count}
-use Rattle.table.specs.Tables.{Table, sound, starts_start, table_bytes, table_front, table_length, table_of}
+use Rattle.table.specs.Tables.{sound, starts_start, table_bytes, table_front, table_length, table_of}
 use Rattle.table.specs.declared.node.Node.{Node}
 use Rattle.table.specs.declared.node.Rule.{Rule}
 use Rattle.table.specs.declared.table.accept.Figures.{Figures}

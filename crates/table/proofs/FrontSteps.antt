@@ -1,6 +1,6 @@
 -- What the parts of a table make of the whole. Assumes nothing.
-use Rattle.std.proofs.Common.{◌≡◌, ℕ, ◌*◌, List, [], length, Ok, Err, Result, sym, ap, ◌∙◌}
-use Rattle.table.specs.Tables.{Table, header_of, nodes_from, nodes_start, rules_of, starts_of, table_front}
+use Rattle.std.proofs.Common.{◌≡◌, ℕ, List, [], length, Ok, Err, Result, sym, ap, ◌∙◌}
+use Rattle.table.specs.Tables.{header_of, nodes_from, nodes_start, rules_of, starts_of, table_front}
 use Rattle.table.specs.Wire.{and_then}
 use Rattle.table.specs.declared.fault.Fault.{Fault}
 use Rattle.table.specs.declared.node.Node.{Node}

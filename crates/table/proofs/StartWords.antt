@@ -1,7 +1,7 @@
 -- Where a register's starting word stands. Assumes nothing.
-use Rattle.std.proofs.Common.{◌≡◌, ℕ, zero, suc, ◌+◌, ◌-◌, ◌*◌, ◌<◌, ◌≤◌, true, cond, ◌&&◌, ltb, List, length, get_or, Some, None, Option, sym, refl, ap, ◌∙◌, arith, lt-ltb}
+use Rattle.std.proofs.Common.{◌≡◌, ℕ, zero, suc, ◌+◌, ◌-◌, ◌*◌, ◌<◌, cond, ◌&&◌, List, length, get_or, Some, None, sym, ap, ◌∙◌, arith, lt-ltb}
 use Rattle.table.specs.Limits.{register_count}
-use Rattle.table.specs.Tables.{Table, start_word, starts_start, table_length, table_of, words_at}
+use Rattle.table.specs.Tables.{start_word, starts_start, table_length, table_of, words_at}
 use Rattle.table.specs.Wire.{word_at}
 use Rattle.table.specs.declared.node.Node.{Node}
 use Rattle.table.specs.declared.node.Rule.{Rule}

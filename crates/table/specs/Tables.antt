@@ -1,5 +1,5 @@
 -- The rule table: its value, its bytes, and what reading the bytes answers. Assumes nothing.
-use Rattle.std.specs.Prelude.{ℕ, zero, suc, ◌+◌, ◌*◌, ◌^◌, Bool, true, false, cond, ◌&&◌, List, [], ◌∷◌, ◌++◌, length, Some, None, Ok, Err, Option, Result, ◌==◌, nat_eq, nat_le, nat_lt, slice_index}
+use Rattle.std.specs.Prelude.{ℕ, zero, suc, ◌+◌, ◌*◌, ◌^◌, Bool, true, cond, ◌&&◌, List, [], ◌∷◌, ◌++◌, length, Some, None, Ok, Option, Result, ◌==◌, nat_eq, nat_le, nat_lt, slice_index}
 use Rattle.std.specs.List.{flat_map}
 use Rattle.table.specs.Limits.{max_switches, max_nodes, max_rules, register_count}
 use Rattle.table.specs.Nodes.{kind_word, a_word, b_word, decoded, node_fits, rule_fits}

@@ -1,4 +1,4 @@
-use Rattle.std.proofs.Common.{◌≡◌, ◌<◌, sym, refl, ap, ◌∙◌, subst, rules}
+use Rattle.std.proofs.Common.{◌<◌, sym, refl, ◌∙◌, subst}
 use Rattle.carriers.specs.Places.{lowest_below}
 use Rattle.carriers.proofs.HeldPlaces.{lowest_more, lowest_found}
 use Rattle.carriers.proofs.pool.lowest.Goals as goal

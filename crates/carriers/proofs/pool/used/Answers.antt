@@ -1,4 +1,4 @@
-use Rattle.std.proofs.Common.{◌≡◌, ◌+◌, ◌<◌, sym, refl, ap, ◌∙◌, subst, arith, rules}
+use Rattle.std.proofs.Common.{◌+◌, sym, refl, ap, ◌∙◌, arith}
 use Rattle.carriers.specs.Places.{used_below}
 use Rattle.carriers.proofs.HeldPlaces.{used_more, used_same}
 use Rattle.carriers.proofs.pool.used.Goals as goal

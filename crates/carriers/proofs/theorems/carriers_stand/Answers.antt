@@ -1,7 +1,7 @@
 use Rattle.std.proofs.Common.{◌≡◌, ℕ, ◌+◌, ◌<◌, Bool, true, false, cond, eqb, List, [], ◌∷◌, ◌++◌, Some, None, Option, sym, refl, ap, ◌∙◌, subst, inl, inr, arith}
 use Rattle.std.proofs.lemmas.Bool.{cases_Bool}
 use Rattle.std.specs.List.{AllByRecursion}
-use Rattle.carriers.specs.Meanings.{Held, Meaning, copies_but, copy_under, no_space, put_after, retire_after, retired_or_same, sendable, with_copy, without_copy}
+use Rattle.carriers.specs.Meanings.{Held, Meaning, copies_but, copy_under, no_space, retired_or_same, sendable, with_copy}
 use Rattle.carriers.specs.Runs.{Answer, Call, CarriersAgree, InOrder, Rising, Run, StaysInOrder, Step, done, fetched, fetches, more, numbered, puts, retired, retires}
 use Rattle.carriers.proofs.theorems.carriers_stand.Goals as goal
 

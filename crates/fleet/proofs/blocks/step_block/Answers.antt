@@ -2,7 +2,6 @@ use Rattle.std.proofs.Common.{◌∙◌}
 use Rattle.table.specs.Views.{view}
 use Rattle.step.specs.Events.{act_of}
 use Rattle.step.specs.Nodes.{word_kind}
-use Rattle.step.specs.Steps.{outcome}
 use Rattle.fleet.proofs.Middle.{answered_there, part_long, put_there, stepped_there}
 use Rattle.fleet.proofs.blocks.step_block.Goals as goal
 

@@ -1,4 +1,4 @@
-use Rattle.std.proofs.Common.{◌≡◌, ◌+◌, Ok, refl, rules}
+use Rattle.std.proofs.Common.{◌≡◌, Ok, refl, rules}
 use Rattle.table.specs.Wire.{field}
 use Rattle.table.specs.declared.fault.Reason.TheVariants.{Events}
 use Rattle.listing.specs.Events.{call_at, receive_at, retire_at, send_at, set_at}

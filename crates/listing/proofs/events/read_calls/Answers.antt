@@ -1,7 +1,7 @@
-use Rattle.std.proofs.Common.{◌≡◌, ◌+◌, ◌-◌, ◌*◌, true, [], ◌∷◌, ◌++◌, is_ok, Ok, Err, vec_items, sym, ap, ◌∙◌, arith, rules}
+use Rattle.std.proofs.Common.{◌≡◌, ◌+◌, true, [], ◌∷◌, ◌++◌, is_ok, Ok, Err, vec_items, sym, ap, ◌∙◌, arith, rules}
 use Rattle.std.proofs.lemmas.Result.{err_from_is_err_and}
 use Rattle.table.proofs.ArrayLoops.{items_more, items_stop, items_done}
-use Rattle.listing.specs.Events.{call_at, call_size, calls_from}
+use Rattle.listing.specs.Events.{call_at, call_size}
 use Rattle.listing.proofs.events.read_calls.Goals as goal
 
 pub returns-in_err-read_call : goal.returns-in_err-read_call

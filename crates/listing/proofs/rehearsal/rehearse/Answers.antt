@@ -4,7 +4,6 @@ use Rattle.std.proofs.lemmas.List.{take_at}
 use Rattle.std.proofs.lemmas.Result.{err_from_is_err_and}
 use Rattle.table.specs.Views.{view}
 use Rattle.step.specs.Logic.{kind_of}
-use Rattle.step.specs.Records.{block_length, hand_length}
 use Rattle.listing.specs.Rehearsals.{RehearsalLaw, pool_copies, unknown}
 use Rattle.listing.proofs.Rehearsing.{rehearsal_done, rehearsal_known, rehearsal_law, rehearsal_stopped}
 use Rattle.listing.proofs.rehearsal.rehearse.Goals as goal

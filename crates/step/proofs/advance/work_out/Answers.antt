@@ -1,4 +1,4 @@
-use Rattle.std.proofs.Common.{◌≡◌, length, sym, refl, ap, ◌∙◌, arith}
+use Rattle.std.proofs.Common.{length, sym, refl, ap, ◌∙◌, arith}
 use Rattle.table.specs.Views.{view}
 use Rattle.step.specs.Steps.{mask}
 use Rattle.step.specs.Logic.{kind_of}

@@ -1,7 +1,7 @@
-use Rattle.std.proofs.Common.{◌≡◌, ap, ◌∙◌}
+use Rattle.std.proofs.Common.{ap, ◌∙◌}
 use Rattle.table.specs.Views.{view}
 use Rattle.step.specs.Nodes.{word_kind}
-use Rattle.step.specs.Opening.{column, opened_one}
+use Rattle.step.specs.Opening.{opened_one}
 use Rattle.step.proofs.Columns.{column_none, column_more}
 use Rattle.step.proofs.open.open_column.Goals as goal
 

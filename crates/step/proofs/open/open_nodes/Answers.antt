@@ -1,8 +1,8 @@
-use Rattle.std.proofs.Common.{◌≡◌, ◌<◌, ◌≤◌, false, length, get_or, sym, ap, ◌∙◌, subst, arith, rules}
+use Rattle.std.proofs.Common.{◌<◌, ◌≤◌, false, length, get_or, ap, ◌∙◌, arith}
 use Rattle.table.specs.Views.{view}
 use Rattle.table.specs.declared.node.Node.TheVariants.{Truth}
 use Rattle.step.specs.Nodes.{word_kind}
-use Rattle.step.specs.Opening.{column, columns}
+use Rattle.step.specs.Opening.{column}
 use Rattle.step.proofs.Columns.{columns_turn, columns_done}
 use Rattle.step.proofs.Ready.{node_ready}
 use Rattle.step.proofs.open.open_nodes.Goals as goal

@@ -1,4 +1,4 @@
-use Rattle.std.proofs.Common.{◌≡◌, length, drop}
+use Rattle.std.proofs.Common.{◌≡◌, drop}
 use Rattle.table.specs.Views.{view}
 use Rattle.step.specs.Nodes.{word_kind}
 use Rattle.step.specs.Opening.{columns}

@@ -1,4 +1,4 @@
-use Rattle.std.proofs.Common.{◌≡◌, ap, ◌∙◌}
+use Rattle.std.proofs.Common.{ap, ◌∙◌}
 use Rattle.step.specs.Steps.{taken_one}
 use Rattle.step.proofs.Takeover.{taken_none, taken_more}
 use Rattle.step.proofs.records.take_over.Goals as goal

@@ -1,4 +1,4 @@
-use Rattle.std.proofs.Common.{◌≡◌, ◌≤◌}
+use Rattle.std.proofs.Common.{◌≡◌}
 use Rattle.step.specs.Steps.{taken}
 use Rattle.step.proofs.records.take_over.Given as goal
 

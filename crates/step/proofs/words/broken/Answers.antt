@@ -1,6 +1,5 @@
-use Rattle.std.proofs.Common.{◌≡◌, ◌-◌, ◌<◌, cond, length, drop, sym, ap, ◌∙◌, arith}
-use mir.Val.{bool_byte}
-use Rattle.step.specs.Steps.{hit, mask}
+use Rattle.std.proofs.Common.{◌≡◌, cond, drop, ap, ◌∙◌, arith}
+use Rattle.step.specs.Steps.{mask}
 use Rattle.step.proofs.Masks.{bit_small, byte_bit, mask_none, mask_turn, mask_room, rule_below}
 use Rattle.step.proofs.words.broken.Goals as goal
 

@@ -1,4 +1,4 @@
-use Rattle.std.proofs.Common.{◌≡◌, ◌≤◌, [], length, take, drop}
+use Rattle.std.proofs.Common.{◌≡◌, [], length, take, drop}
 use Rattle.step.specs.Nodes.{word_kind}
 use Rattle.step.specs.Steps.{new_words}
 use Rattle.step.proofs.words.own_words.Given as goal

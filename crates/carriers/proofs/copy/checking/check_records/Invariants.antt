@@ -1,4 +1,4 @@
-use Rattle.std.proofs.Common.{◌≡◌, ◌+◌, ◌*◌, Ok}
+use Rattle.std.proofs.Common.{◌≡◌, Ok}
 use Rattle.table.specs.declared.fault.Reason.TheVariants.{Copy}
 use Rattle.carriers.specs.Copies.{record_offset, records_read}
 use Rattle.carriers.proofs.copy.checking.check_records.Given as goal

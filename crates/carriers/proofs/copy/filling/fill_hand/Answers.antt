@@ -1,4 +1,4 @@
-use Rattle.std.proofs.Common.{◌≡◌, sym, refl, rules}
+use Rattle.std.proofs.Common.{refl}
 use Rattle.carriers.proofs.CopyWrites.{hand_filled}
 use Rattle.carriers.proofs.copy.filling.fill_hand.Goals as goal
 

@@ -1,4 +1,3 @@
-use Rattle.std.proofs.Common.{◌≡◌, sym, refl, arith, rules}
 use Rattle.carriers.proofs.CopyWrites.{records_in_none, records_in_turn}
 use Rattle.carriers.proofs.copy.filling.take_records.Goals as goal
 

@@ -1,4 +1,4 @@
-use Rattle.std.proofs.Common.{◌≡◌, sym, refl, arith, rules}
+use Rattle.std.proofs.Common.{refl}
 use Rattle.carriers.proofs.CopyWrites.{taken_none, taken_turn}
 use Rattle.carriers.proofs.copy.filling.take_words.Goals as goal
 

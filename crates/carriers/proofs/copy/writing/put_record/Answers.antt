@@ -1,4 +1,4 @@
-use Rattle.std.proofs.Common.{◌≡◌, sym, refl, arith, rules}
+use Rattle.std.proofs.Common.{refl}
 use Rattle.std.proofs.lemmas.List.{take_rest}
 use Rattle.carriers.proofs.CopyWrites.{record_written}
 use Rattle.carriers.proofs.copy.writing.put_record.Goals as goal

@@ -1,4 +1,4 @@
-use Rattle.std.proofs.Common.{◌≡◌, ◌+◌, ◌-◌, ◌/◌, ◌%◌, ◌^◌, [], ◌∷◌, length, sym, ap, ◌∙◌, arith}
+use Rattle.std.proofs.Common.{◌≡◌, ◌+◌, ◌-◌, ◌/◌, ◌%◌, [], ◌∷◌, length, ap, ◌∙◌, arith}
 use Rattle.table.specs.Wire.{word_bytes}
 use Rattle.carriers.specs.Memory.{placed}
 use Rattle.carriers.proofs.Placing.{putMid_placed}

@@ -1,4 +1,4 @@
-use Rattle.std.proofs.Common.{◌≡◌, get_or, sym, refl, arith, rules}
+use Rattle.std.proofs.Common.{sym, refl, arith}
 use Rattle.carriers.proofs.CopyWrites.{words_turn, words_end}
 use Rattle.carriers.proofs.Placing.{placed_none}
 use Rattle.carriers.proofs.copy.writing.put_words.Goals as goal

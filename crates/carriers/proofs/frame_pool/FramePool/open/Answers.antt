@@ -1,7 +1,7 @@
-use Rattle.std.proofs.Common.{◌≡◌, ◌+◌, ◌*◌, ◌/◌, ◌≤◌, true, false, length, replicate, sym, refl, ap, ◌∙◌, subst, div-mul-le_self, arith}
+use Rattle.std.proofs.Common.{◌≡◌, ◌+◌, ◌*◌, ◌/◌, ◌≤◌, true, false, length, sym, refl, ◌∙◌, subst, div-mul-le_self}
 use Rattle.std.proofs.lemmas.Bool.{cond-false, cond-true}
 use Rattle.carriers.specs.CopyCalls.{in_range}
-use Rattle.carriers.specs.FramePlaces.{frame_capacity, frame_place}
+use Rattle.carriers.specs.FramePlaces.{frame_place}
 use Rattle.carriers.proofs.CopyPlaces.{range_few}
 use Rattle.carriers.proofs.Opening.{closed_meaning, distinct_zero, frame_flags_zero, numbered_zero, opened_meaning}
 use Rattle.carriers.proofs.frame_pool.FramePool.open.Goals as goal

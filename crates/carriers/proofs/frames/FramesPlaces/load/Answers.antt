@@ -1,4 +1,4 @@
-use Rattle.std.proofs.Common.{◌≡◌, ◌+◌, ◌-◌, length, take, drop, ap, ◌∙◌, arith}
+use Rattle.std.proofs.Common.{◌≡◌, ◌+◌, ◌-◌, take, drop, ◌∙◌, arith}
 use Rattle.carriers.specs.Copies.{copy_length, hand_in}
 use Rattle.carriers.specs.FramePlaces.{frame_copy}
 use Rattle.carriers.proofs.frames.FramesPlaces.load.Goals as goal

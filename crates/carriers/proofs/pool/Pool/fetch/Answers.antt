@@ -1,4 +1,4 @@
-use Rattle.std.proofs.Common.{◌≡◌, ◌+◌, ◌<◌, length, get_or, sym, refl, ap, ◌∙◌, subst}
+use Rattle.std.proofs.Common.{sym, ap, ◌∙◌}
 use Rattle.step.specs.Records.{hand_length}
 use Rattle.carriers.proofs.HeldPlaces.{lowest_some}
 use Rattle.carriers.proofs.PoolSteps.{fetch_absent, fetch_there}

@@ -1,4 +1,4 @@
-use Rattle.std.proofs.Common.{◌≡◌, sym, refl, ap, ◌∙◌, subst, rules}
+use Rattle.std.proofs.Common.{sym, ◌∙◌}
 use Rattle.carriers.proofs.HeldPlaces.{held_length}
 use Rattle.carriers.proofs.pool.Pool.figures.Goals as goal
 

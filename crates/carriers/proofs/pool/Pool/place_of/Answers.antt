@@ -1,4 +1,4 @@
-use Rattle.std.proofs.Common.{◌≡◌, ◌+◌, ◌<◌, sym, refl, ap, ◌∙◌, subst, arith, rules}
+use Rattle.std.proofs.Common.{sym}
 use Rattle.carriers.proofs.HeldPlaces.{lowest_unused}
 use Rattle.carriers.proofs.pool.Pool.place_of.Goals as goal
 

@@ -1,4 +1,4 @@
-use Rattle.std.proofs.Common.{◌≡◌, ◌+◌, ◌<◌, [], sym, refl, ap, ◌∙◌, subst}
+use Rattle.std.proofs.Common.{[], sym, ◌∙◌}
 use Rattle.carriers.proofs.HeldPlaces.{lowest_some}
 use Rattle.carriers.proofs.PoolSteps.{retire_absent, retire_there}
 use Rattle.carriers.proofs.pool.Pool.retire.Goals as goal

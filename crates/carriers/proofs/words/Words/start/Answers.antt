@@ -1,4 +1,4 @@
-use Rattle.std.proofs.Common.{◌≡◌, ◌+◌, ◌*◌, ◌≤◌, sym, refl, ap, ◌∙◌, subst, arith, rules}
+use Rattle.std.proofs.Common.{◌≡◌, ◌+◌, ◌*◌, ◌≤◌, ap, arith}
 use Rattle.carriers.specs.WordPlaces.{word_place}
 use Rattle.carriers.proofs.Rows.{row_room}
 use Rattle.carriers.proofs.words.Words.start.Goals as goal

@@ -1,4 +1,4 @@
-use Rattle.std.proofs.Common.{◌≡◌, ◌+◌, ◌-◌, length, take, drop, ap, ◌∙◌, arith}
+use Rattle.std.proofs.Common.{◌≡◌, ◌+◌, ◌-◌, length, take, drop, ◌∙◌, arith}
 use Rattle.step.specs.Records.{hand_length}
 use Rattle.carriers.specs.WordPlaces.{word_copy}
 use Rattle.carriers.proofs.words.WordsPlaces.load.Goals as goal

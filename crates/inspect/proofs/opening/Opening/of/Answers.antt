@@ -1,4 +1,4 @@
-use Rattle.std.proofs.Common.{◌≡◌, ℕ, List, length, ap, ◌∙◌, rules}
+use Rattle.std.proofs.Common.{ℕ, List, length, ap, ◌∙◌, rules}
 use Rattle.std.specs.Result.{result_unwrap_or}
 use Rattle.table.specs.Views.{view}
 use Rattle.step.specs.StepLaws.{record_words}

@@ -1,4 +1,4 @@
-use Rattle.std.proofs.Common.{◌+◌, ◌*◌, ◌%◌, ◌<◌, length, sym, ap, subst, mod-lt, arith}
+use Rattle.std.proofs.Common.{◌*◌, ◌%◌, ◌<◌, length, sym, ap, subst, mod-lt, arith}
 use Rattle.table.specs.Views.{view}
 use Rattle.listing.proofs.LookSteps.{some_nodes, some_pairs, some_switches}
 use Rattle.listing.proofs.knowledge.Entry.new.Goals as goal

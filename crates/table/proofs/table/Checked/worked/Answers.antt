@@ -1,4 +1,4 @@
-use Rattle.std.proofs.Common.{refl, arith, lit≤}
+use Rattle.std.proofs.Common.{refl, lit≤}
 use Rattle.table.specs.Nodes.{truth_node, reading_node}
 use Rattle.table.specs.Tables.{nodes_sound, sound, table_bytes, words_at}
 use Rattle.table.specs.Wire.{word_at}

@@ -1,7 +1,7 @@
-use Rattle.std.proofs.Common.{◌≡◌, ◌+◌, ◌-◌, ◌*◌, ◌≤◌, [], length, take, is_ok, Ok, Err, sym, refl, ap, ◌∙◌, subst, arith, rules}
+use Rattle.std.proofs.Common.{◌≡◌, ◌+◌, ◌-◌, ◌*◌, ◌≤◌, [], length, take, is_ok, Ok, sym, refl, ap, ◌∙◌, subst, arith}
 use Rattle.std.proofs.lemmas.List.{length-take-le}
 use Rattle.std.proofs.lemmas.Result.{err_from_is_err_and}
-use Rattle.table.specs.Tables.{header_of, nodes_from, nodes_start, node_size, rules_start, rules_of, starts_of, starts_start, words_at}
+use Rattle.table.specs.Tables.{header_of, nodes_from, nodes_start, rules_of, starts_of, starts_start, words_at}
 use Rattle.table.specs.Wire.{counted, filled}
 use Rattle.table.proofs.Filling.{slice_bytes}
 use Rattle.table.proofs.FrontSteps.{front_no_header, front_no_nodes, front_no_rules, front_no_starts, front_made, read_at}

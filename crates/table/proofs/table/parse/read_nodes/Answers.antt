@@ -1,8 +1,6 @@
-use Rattle.std.proofs.Common.{◌≡◌, ◌+◌, ◌<◌, true, length, is_ok, Ok, Err, Result, sym, ap, ◌∙◌, arith, rules}
+use Rattle.std.proofs.Common.{◌≡◌, ◌+◌, ◌<◌, true, length, is_ok, sym, ap, ◌∙◌, arith, rules}
 use Rattle.std.proofs.lemmas.Result.{err_from_is_err_and}
 use Rattle.table.specs.Tables.{node_at, node_size}
-use Rattle.table.specs.declared.fault.Fault.{Fault}
-use Rattle.table.specs.declared.node.Node.{Node}
 use Rattle.table.proofs.ArrayLoops.{filled_more, filled_all, items_stop, read_there}
 use Rattle.table.proofs.table.parse.read_nodes.Goals as goal
 
