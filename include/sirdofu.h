@@ -1,5 +1,5 @@
-/* Calls for firmware in C. table_check is in libtable.a, which `rt staticlib table` builds, and
- * copy_check in libcarriers.a, which `rt staticlib carriers` builds. */
+/* Calls for firmware in C. table_check is in libtable.a and copy_check in libcarriers.a, which
+ * `tools/build.sh libtable.a libcarriers.a` writes to target/staticlib. */
 
 #ifndef SIRDOFU_H
 #define SIRDOFU_H

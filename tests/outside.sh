@@ -58,14 +58,14 @@ mkdir -p "$out"
 
 # The copy codec is no call for firmware, so the tests have it in a library of their own.
 directory=${1:-target/staticlib}
+archives='libtable.a libcarriers.a libcopy_probe.a'
+[ $# -gt 0 ] || tools/build.sh $archives >"$out/build.log" 2>&1 || {
+    cat "$out/build.log" >&2
+    exit 1
+}
 libraries=
-for name in table carriers copy_probe; do
-    libraries="$libraries $directory/lib$name.a"
-    [ $# -eq 0 ] || continue
-    rt staticlib "$name" >"$out/staticlib.log" 2>&1 || {
-        cat "$out/staticlib.log" >&2
-        exit 1
-    }
+for archive in $archives; do
+    libraries="$libraries $directory/$archive"
 done
 
 sanitizers=$(sanitizer_flags)
