@@ -66,6 +66,7 @@ fn used<P: Places>(places: &P) -> usize
 }
 
 impl<P: Places> Pool<P> {
+    #[tactic(auto, using(crate::proofs::HeldPlaces::held_length))]
     pub(crate) fn figures(&self) -> Figures
         requires { P.Places.fitting self.now.places }
         ensures { result ≡ figures_of (meaning_of (P.Places.outline self.now.places) self.now.next (P.Places.flags self.now.places) (P.Places.copies self.now.places)) }
