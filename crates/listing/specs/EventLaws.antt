@@ -7,7 +7,7 @@ use Rattle.table.specs.Tables.{between, every}
 use Rattle.table.specs.Wire.{fault, word_at}
 use Rattle.table.specs.declared.fault.Reason.TheVariants as why
 
--- From an offset of the input on, exactly the encodings of at most most-calls calls are accepted,
+-- From an offset of the input on, exactly the encodings of at most most_calls calls are accepted,
 -- and encoding and decoding undo each other.
 pub record AcceptsExactly (bs : List ℕ) (at : ℕ) : Type 0 where
   -- what is accepted is the encoding of calls, and those calls are the answer

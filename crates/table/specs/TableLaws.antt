@@ -23,7 +23,7 @@ pub record AcceptsExactly (code : ℕ) (bs : List ℕ) : Type 0 where
   -- every sound table's encoding is accepted, and decodes to it
   pub all : (t : Table) → t.code ≡ code → sound t ≡ true → table_bytes t ≡ bs → table_alone code bs ≡ Ok t
 
--- The same of a table at the front of a longer input: its bytes are the first table-length.
+-- The same of a table at the front of a longer input: its bytes are the first table_length.
 pub record AcceptsFront (code : ℕ) (bs : List ℕ) : Type 0 where
   pub only : (t : Table) → table_front code bs ≡ Ok t → (t.code ≡ code) × (sound t ≡ true) × (table_length t ≤ length bs) × (table_bytes t ≡ take (table_length t) bs)
   pub all : (t : Table) (rest : List ℕ) → t.code ≡ code → sound t ≡ true → bs ≡ table_bytes t ++ rest → table_front code bs ≡ Ok t
