@@ -16,7 +16,7 @@ tar -cf - --exclude=out --exclude='*.edit' crates crates.txt | tar -xf - -C "$wo
 mkdir -p "$work/crates/$crate/must-fail"
 cp "$@" "$work/crates/$crate/must-fail/"
 
-# `rt must-fail` passes where an edit is bad, that is cannot be applied or is a compiler's error.
+# `rt must-fail` fails where an edit is not refused, and where one is bad: it cannot be applied or is a compiler's error.
 (cd "$work/crates/$crate" && rt check >/dev/null 2>&1)
 (cd "$work" && rt must-fail "$crate" 2>&1) | tee "$work/log"
 ! grep -Eq ', [1-9][0-9]* bad' "$work/log"
