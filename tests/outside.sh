@@ -59,10 +59,7 @@ mkdir -p "$out"
 # The copy codec is no call for firmware, so the tests have it in a library of their own.
 directory=${1:-target/staticlib}
 archives='libtable.a libcarriers.a libcopy_probe.a'
-[ $# -gt 0 ] || tools/build.sh $archives >"$out/build.log" 2>&1 || {
-    cat "$out/build.log" >&2
-    exit 1
-}
+[ $# -gt 0 ] || tools/build.sh $archives
 libraries=
 for archive in $archives; do
     libraries="$libraries $directory/$archive"

@@ -18,5 +18,4 @@ cp "$@" "$work/crates/$crate/must-fail/"
 
 # `rt must-fail` fails where an edit is not refused, and where one is bad: it cannot be applied or is a compiler's error.
 (cd "$work/crates/$crate" && rt check >/dev/null 2>&1)
-(cd "$work" && rt must-fail "$crate" 2>&1) | tee "$work/log"
-! grep -Eq ', [1-9][0-9]* bad' "$work/log"
+(cd "$work" && rt must-fail "$crate")

@@ -12,7 +12,7 @@ out=target/bench/copy_codec
 mkdir -p "$out"
 
 library=${1:-target/staticlib/libcopy_probe.a}
-[ $# -gt 0 ] || tools/build.sh libcopy_probe.a 2>/dev/null
+[ $# -gt 0 ] || tools/build.sh libcopy_probe.a
 
 formats/make_codec.sh "$out"
 gcc -w -O3 -isystem /usr/include/tirpc -c "$out/copy_codec.c" -o "$out/copy_codec.o"

@@ -12,7 +12,7 @@ out=target/bench/table_check
 mkdir -p "$out"
 
 library=${1:-target/staticlib/libtable.a}
-[ $# -gt 0 ] || tools/build.sh libtable.a 2>/dev/null
+[ $# -gt 0 ] || tools/build.sh libtable.a
 
 # A shared library, because two Rust static libraries in one program define the same names.
 rustc --edition 2024 -C opt-level=3 -C panic=abort --crate-type cdylib --crate-name plain \

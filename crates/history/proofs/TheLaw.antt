@@ -1,11 +1,11 @@
 -- The law of a list of calls on a new fleet, for every allowed order. Assumes nothing.
-use Rattle.std.proofs.Common.{◌≡◌, ℕ, ◌<◌, true, List, length, Result, sym, ap, ◌∙◌}
+use Rattle.std.proofs.Common.{◌≡◌, ℕ, ◌<◌, true, List, length, Result, refl, sym, ap, ◌∙◌}
 use Rattle.std.specs.List.{AllByRecursion}
 use Rattle.table.specs.Tables.{Table, sound}
 use Rattle.table.specs.declared.fault.Fault.{Fault}
 use Rattle.step.specs.Logic.{Kind, Lawful, on_words}
 use Rattle.history.specs.Calls.{Call, Fleet, Reply, ran}
-use Rattle.history.specs.Law.{PassedThrough}
+use Rattle.history.specs.Law.{Law, PassedThrough}
 use Rattle.history.specs.Orders.{New}
 use Rattle.history.specs.AnsweredLaw.{AnsweredLaw, AnsweredSame}
 use Rattle.history.specs.Runs.{WordCall, answer_at, event}
@@ -44,8 +44,22 @@ module _ {R : Type 0} (k : Kind R) (held : R → Type 0) (law : Lawful k held) (
             ∙ sym (knows_is k held law t is_sound f new calls words e s j);
       }
 
+  -- the law itself, of the answers and the memory that the definitions give
+  the_law : Law k t f calls
+  the_law = record {
+    values = history k held law t is_sound f new calls words;
+    verdict = λ e is. verdict k held law t is_sound f new calls words (answer_at (on_words k) t f calls) left e refl;
+    counts = counts k held law t is_sound f new calls words;
+    passed = passed_through;
+    same = record {
+      answers = λ order allowed g fits p d less. every_answer (on_words k) t f calls is_sound new order allowed g fits.0 fits.1 (answer_at (on_words k) t f calls) (λ i below. refl) p d less;
+      memory = λ order allowed g fits. every_memory (on_words k) t f calls is_sound new order allowed g fits.0 fits.1;
+    };
+  }
+
   pub law_holds : AnsweredLaw k t f calls said left
   law_holds = record {
+    law = the_law;
     told = λ i below. sym (said_is i below);
     ended = ap (λ z. z.memory) (all_calls (on_words k) t f calls) ∙ sym left_is;
     values = history k held law t is_sound f new calls words;

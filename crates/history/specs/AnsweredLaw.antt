@@ -6,7 +6,7 @@ use Rattle.table.specs.declared.fault.Fault.{Fault}
 use Rattle.table.specs.declared.node.Rule.{Rule}
 use Rattle.step.specs.Logic.{Kind, Values, on_words}
 use Rattle.history.specs.Calls.{Call, send_call, Fleet, Reply, ran}
-use Rattle.history.specs.Law.{Counts, Fits, History, PassedThrough, SameAnswer, mask_of}
+use Rattle.history.specs.Law.{Counts, Fits, History, Law, PassedThrough, SameAnswer, mask_of}
 use Rattle.history.specs.Orders.{Allowed, calls_of, new_number}
 use Rattle.history.specs.Runs.{Nth, answer_at, answered, call_at, event, fleet_at}
 
@@ -39,8 +39,9 @@ module _ {R : Type 0} (k : Kind R) (t : Table) (f : Fleet) (calls : List Call) (
     pub memory : (order : List ℕ) → Allowed (on_words k) t f calls order → (g : Fleet) → Fits k t f calls order g
         → (ran (on_words k) t g (calls_of (on_words k) t f calls order)).memory ≡ left
 
-  -- The law of a list of calls on a new fleet
+  -- The law of a list of calls on a new fleet, and that its answers and its memory are those of the calls as they went
   pub record AnsweredLaw : Type 0 where
+    pub law : Law k t f calls
     -- the history is that of the calls as they really went: each answer, and the memory after the last
     pub told : (i : ℕ) → i < length calls → answer_at (on_words k) t f calls i ≡ said i
     pub ended : (fleet_at (on_words k) t f calls (length calls)).memory ≡ left
