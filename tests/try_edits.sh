@@ -17,5 +17,8 @@ mkdir -p "$work/crates/$crate/must-fail"
 cp "$@" "$work/crates/$crate/must-fail/"
 
 # `rt must-fail` fails where an edit is not refused, and where one is bad: it cannot be applied or is a compiler's error.
-(cd "$work/crates/$crate" && rt check >/dev/null 2>&1)
+(cd "$work/crates/$crate" && rt check) >"$work/log" 2>&1 || {
+    cat "$work/log" >&2
+    exit 1
+}
 (cd "$work" && rt must-fail "$crate")
