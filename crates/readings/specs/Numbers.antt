@@ -2,6 +2,7 @@
 use Rattle.std.specs.Prelude.{ℕ, Bool, false, ℤ, pos, negsuc, ◌+ℤ◌, ◌-ℤ◌, FitsSigned, ◌==◌, int_le}
 use Rattle.std.proofs.Common.{to_z, of_z}
 use Rattle.std.specs.Int.{saturate_to_bits, w32}
+use Rattle.readings.specs.Kinds.{Kind}
 use Rattle.readings.specs.declared.number.Number.{Number}
 
 abbrev pub number_code : ℕ
@@ -35,3 +36,13 @@ same_integer (negsuc m) (negsuc n) = m == n
 
 abbrev pub same_number : Number → Number → Bool
 same_number a b = same_integer a.value b.value
+
+abbrev pub numbers : Kind Number
+numbers = record {
+  word = number_word;
+  reading = word_number;
+  joined = sum;
+  less = difference;
+  inside = at_most;
+  equal = same_number;
+}

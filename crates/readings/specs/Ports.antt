@@ -1,6 +1,7 @@
 -- Port sets, the kind of reading with code 2: a word stands for the set of the ports whose binary digit in it is 1. Assumes nothing.
 use Rattle.std.specs.Prelude.{◌≡◌, ℕ, zero, suc, ◌+◌, ◌*◌, ◌/◌, ◌%◌, ◌^◌, ◌<◌, Bool, true, cond, not, ◌&&◌, ◌||◌, ◌⊎◌, ◌↔◌, ◌==◌}
 use Rattle.std.specs.Bool.{beq}
+use Rattle.readings.specs.Kinds.{Kind}
 use Rattle.readings.specs.declared.ports.Ports.{Ports}
 
 abbrev pub port_code : ℕ
@@ -49,6 +50,16 @@ subset a b = all_below port_count (λ p. not (has a.bits p) || has b.bits p)
 -- every port is in both or in neither
 abbrev pub same_ports : Ports → Ports → Bool
 same_ports a b = all_below port_count (λ p. beq (has a.bits p) (has b.bits p))
+
+abbrev pub port_sets : Kind Ports
+port_sets = record {
+  word = ports_word;
+  reading = word_ports;
+  joined = union;
+  less = without;
+  inside = subset;
+  equal = same_ports;
+}
 
 -- port p is a member of the set a
 abbrev pub Member : ℕ → Ports → Type 0

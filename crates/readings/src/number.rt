@@ -1,5 +1,5 @@
 // Numbers: a word in two's complement.
-ghost use Rattle.readings.specs.Numbers.{number_code, held_number, number_word, word_number, sum, difference, at_most, same_number};
+ghost use Rattle.readings.specs.Numbers.{number_code, held_number, numbers};
 ghost use Rattle.std.proofs.Common.{rules};
 
 use crate::reading::Reading;
@@ -12,21 +12,11 @@ pub struct Number {
 impl Reading for Number {
     const CODE: u32 = 1;
 
-    ghost code = { number_code };
+    ghost CODE = { number_code };
 
     ghost held = { held_number };
 
-    ghost word = { number_word };
-
-    ghost reading = { word_number };
-
-    ghost joined = { sum };
-
-    ghost less = { difference };
-
-    ghost inside = { at_most };
-
-    ghost equal = { same_number };
+    ghost kind = { numbers };
 
     ghost back = { Prim.search rules };
 
@@ -37,10 +27,6 @@ impl Reading for Number {
     ghost joins = { Prim.search rules };
 
     ghost cuts = { Prim.search rules };
-
-    fn native(w: u32) -> bool {
-        w == Self::CODE
-    }
 
     fn from_word(w: u32) -> Number {
         Number {

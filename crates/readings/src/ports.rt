@@ -1,5 +1,5 @@
 // Port sets: bit p of the word is port p.
-ghost use Rattle.readings.specs.Ports.{port_code, held_ports, ports_word, word_ports, union, without, subset, same_ports, has, port_count};
+ghost use Rattle.readings.specs.Ports.{port_code, held_ports, has, port_count, port_sets};
 ghost use Rattle.std.specs.Prelude.{not, ◌&&◌, ◌||◌};
 ghost use Rattle.readings.specs.PortSets.{collect_lt};
 ghost use Rattle.std.proofs.Common.{rules};
@@ -14,21 +14,11 @@ pub struct Ports {
 impl Reading for Ports {
     const CODE: u32 = 2;
 
-    ghost code = { port_code };
+    ghost CODE = { port_code };
 
     ghost held = { held_ports };
 
-    ghost word = { ports_word };
-
-    ghost reading = { word_ports };
-
-    ghost joined = { union };
-
-    ghost less = { without };
-
-    ghost inside = { subset };
-
-    ghost equal = { same_ports };
+    ghost kind = { port_sets };
 
     ghost back = { Prim.search rules };
 
@@ -39,10 +29,6 @@ impl Reading for Ports {
     ghost joins = { λ a b ha hb. collect_lt port_count (λ p. has a.bits p || has b.bits p) };
 
     ghost cuts = { λ a b ha hb. collect_lt port_count (λ p. has a.bits p && not (has b.bits p)) };
-
-    fn native(w: u32) -> bool {
-        w == Self::CODE
-    }
 
     fn from_word(w: u32) -> Ports {
         Ports { bits: w }

@@ -5,8 +5,8 @@ use Rattle.std.proofs.lemmas.List.{length_push}
 use Rattle.table.specs.Limits.{max_switches, max_nodes, max_rules, register_count}
 use Rattle.table.specs.Nodes.{decoded, node_fits, rule_fits}
 use Rattle.table.specs.TableLaws.{Condition, present, value, field_conditions, words_node, nodes_before, fits_there, node_conditions, words_rule, rule_conditions, each, node_count, rule_count, start_count, conditions, table_end, nothing_left, first_fault, refusal, RefusesFirst}
-use Rattle.table.specs.Tables.{items_from, Table, between, node_size, rule_size, nodes_start, rules_start, starts_start, tested, judged, node_at, nodes_from, rule_at, rules_from, words_from, header_of, rules_of, starts_of, table_front, table_length, table_alone}
-use Rattle.table.specs.Wire.{word_at, fault, refuse, field, and_then}
+use Rattle.table.specs.Tables.{items_from, Table, node_size, rule_size, nodes_start, rules_start, starts_start, tested, judged, node_at, nodes_from, rule_at, rules_from, words_from, header_of, rules_of, starts_of, table_front, table_length, table_alone}
+use Rattle.table.specs.Wire.{word_at, fault, refuse, field, and_then, between, tested_field}
 use Rattle.table.specs.declared.fault.Fault.{Fault}
 use Rattle.table.specs.declared.fault.Reason.TheVariants as why
 use Rattle.table.specs.declared.node.Node.{Node}
@@ -62,7 +62,7 @@ unfolding field
 field_agrees bs i = judgement (leb (i + 4) (length bs)) (fault why.TableLength i) (word_at bs i)
 
 tested_agrees : (ok : ℕ → Bool) (bs : List ℕ) (i : ℕ) → Agrees (tested ok bs i) (field_conditions ok bs i) (word_at bs i)
-unfolding tested
+unfolding tested_field
 tested_agrees ok bs i =
     followed _ (λ w. cond (ok w) (Ok w) (refuse why.TableField i)) (present bs i ∷ []) (value (ok (word_at bs i)) i ∷ []) (word_at bs i) (word_at bs i)
     (field_agrees bs i) (judgement (ok (word_at bs i)) (fault why.TableField i) (word_at bs i))

@@ -37,6 +37,6 @@ module _ (code : ℕ) (bs : List ℕ) where
         unfolding table_front
         front_made ws h = after (header_of code bs) _ head header ∙ after (nodes_from head.switches bs nodes_start head.nodes []) _ xs nodes ∙ after (rules_of head.switches xs bs) _ rs rules ∙ after (starts_of head.switches (length xs) (length rs) bs) _ ws h
 
--- what a call read of the bytes b at the offset a
-pub read_at : {X : Type 0} (F : List ℕ → ℕ → Result X Fault) (b bs : List ℕ) (a at : ℕ) (r : Result X Fault) → b ≡ bs → a ≡ at → r ≡ F b a → F bs at ≡ r
-read_at F b bs a at r same place said = ap (λ z. F z at) (sym same) ∙ ap (F b) (sym place) ∙ sym said
+-- what a call read of the bytes b, which are bs, and of y, which is x
+pub read_at : {A X : Type 0} (F : List ℕ → A → Result X Fault) (b bs : List ℕ) (y x : A) (r : Result X Fault) → b ≡ bs → y ≡ x → r ≡ F b y → F bs x ≡ r
+read_at F b bs y x r same item said = ap (λ z. F z x) (sym same) ∙ ap (F b) (sym item) ∙ sym said

@@ -1,6 +1,7 @@
 pub mod ArrayLoops
 pub mod Arrays
 pub mod Filling
+pub mod FrontBytes
 pub mod FirstFault
 pub mod FrontSteps
 pub mod NodeWords

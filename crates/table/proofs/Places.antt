@@ -4,8 +4,8 @@ use Rattle.std.proofs.lemmas.List.{length_push}
 use Rattle.std.proofs.lemmas.Bool.{and_parts, leb-true, eqb-true}
 use Rattle.table.specs.Limits.{max_switches, max_nodes, max_rules, register_count}
 use Rattle.table.specs.Nodes.{decoded, node_fits, rule_fits}
-use Rattle.table.specs.Tables.{Table, between, tested, judged, node_at, rule_at, items_from, node_size, rule_size, nodes_start, rules_start, starts_start, nodes_from, header_of, rules_of, starts_of, table_front, table_length, table_alone, longest_table}
-use Rattle.table.specs.Wire.{field, fault, and_then}
+use Rattle.table.specs.Tables.{Table, tested, judged, node_at, rule_at, items_from, node_size, rule_size, nodes_start, rules_start, starts_start, nodes_from, header_of, rules_of, starts_of, table_front, table_length, table_alone, longest_table}
+use Rattle.table.specs.Wire.{field, fault, and_then, between, tested_field}
 use Rattle.table.specs.declared.fault.Fault.{Fault}
 use Rattle.table.specs.declared.fault.Reason.{Reason}
 use Rattle.table.specs.declared.fault.Reason.TheVariants as why
@@ -40,7 +40,7 @@ unfolding field
 placed_field b why bs i h = placed_cond b _ _ (fault why i) h
 
 placed_tested : (b : ℕ) (ok : ℕ → Bool) (bs : List ℕ) (i : ℕ) → i ≤ b → Placed b (tested ok bs i)
-unfolding tested
+unfolding tested_field
 placed_tested b ok bs i h =
     placed_then b (field why.TableLength bs i) _ (placed_field b why.TableLength bs i h) (λ w s. placed_cond b (ok w) w (fault why.TableField i) h)
 

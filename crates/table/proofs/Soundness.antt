@@ -3,7 +3,8 @@ use Rattle.std.proofs.Common.{◌≡◌, ℕ, zero, suc, ◌*◌, ◌^◌, ◌<�
 use Rattle.std.proofs.lemmas.Bool.{and_parts, and_from, leb-true, eqb-true, ltb-true}
 use Rattle.table.specs.Limits.{max_switches, max_nodes, max_rules, register_count}
 use Rattle.table.specs.Nodes.{node_fits, rule_fits}
-use Rattle.table.specs.Tables.{Table, is_word, between, node_holds, nodes_sound, every, sound}
+use Rattle.table.specs.Tables.{Table, is_word, node_holds, nodes_sound, every, sound}
+use Rattle.table.specs.Wire.{between}
 use Rattle.table.specs.declared.node.Node.{Node}
 use Rattle.table.specs.declared.node.Node.TheVariants.{Truth}
 

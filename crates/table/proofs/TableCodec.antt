@@ -5,8 +5,8 @@ use Rattle.std.proofs.lemmas.List.{take_all, get_or-take}
 use Rattle.std.proofs.lemmas.Bool.{eqb-true, eq-eqb, lt-ltb, cond-true}
 use Rattle.table.specs.Limits.{max_switches, max_nodes, max_rules, register_count}
 use Rattle.table.specs.TableLaws.{Bytes, AcceptsExactly, AcceptsFront}
-use Rattle.table.specs.Tables.{Table, items_from, node_size, rule_size, nodes_start, rules_start, starts_start, node_bytes, rule_bytes, array_bytes, table_bytes, between, is_word, tested, nodes_from, rules_from, words_from, header_of, rules_of, starts_of, table_front, table_length, table_alone, words_at, table_of}
-use Rattle.table.specs.Wire.{word_at, word_bytes, field}
+use Rattle.table.specs.Tables.{Table, items_from, node_size, rule_size, nodes_start, rules_start, starts_start, node_bytes, rule_bytes, array_bytes, table_bytes, is_word, tested, nodes_from, rules_from, words_from, header_of, rules_of, starts_of, table_front, table_length, table_alone, words_at, table_of}
+use Rattle.table.specs.Wire.{word_at, word_bytes, field, between}
 use Rattle.table.specs.declared.fault.Reason.TheVariants as why
 use Rattle.table.specs.declared.node.Node.{Node}
 use Rattle.table.specs.declared.node.Rule.{Rule}

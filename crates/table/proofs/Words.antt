@@ -5,7 +5,7 @@ use Rattle.std.proofs.lemmas.List.{get_or_append_left, get_or-append_right, get_
 use Rattle.std.proofs.lemmas.Bool.{cases_lt, leb-true, le-leb, cond-true}
 use Rattle.table.specs.TableLaws.{Bytes}
 use Rattle.table.specs.Tables.{tested}
-use Rattle.table.specs.Wire.{word_at, word_bytes, field, and_then}
+use Rattle.table.specs.Wire.{word_at, word_bytes, field, and_then, tested_field}
 use Rattle.table.specs.declared.fault.Fault.{Fault}
 use Rattle.table.specs.declared.fault.Reason.{Reason}
 use Rattle.table.specs.declared.fault.Reason.TheVariants as why
@@ -134,12 +134,12 @@ field_stands why bs i w bytes h =
     (subst (λ v. Stands bs i (word_bytes v)) p.1 (word_stands bs i bytes p.0), subst (λ v. v < 2 ^ 32) p.1 (word_small bs i bytes p.0))
 
 pub tested_parts : (ok : ℕ → Bool) (bs : List ℕ) (i w : ℕ) → tested ok bs i ≡ Ok w → (field why.TableLength bs i ≡ Ok w) × (ok w ≡ true)
-unfolding tested
+unfolding tested_field
 tested_parts ok bs i w h =
     let p = and_then_parts (field why.TableLength bs i) _ w h in
     let q = cond_parts _ _ _ _ p.2 in
     (p.1 ∙ ap Ok q.1, subst (λ v. ok v ≡ true) q.1 q.0)
 
 pub tested_from : (ok : ℕ → Bool) (bs : List ℕ) (i w : ℕ) → Stands bs i (word_bytes w) → ok w ≡ true → tested ok bs i ≡ Ok w
-unfolding tested
+unfolding tested_field
 tested_from ok bs i w h e = and_then_from _ _ w w (field_from why.TableLength bs i w h) (cond-true _ _ _ e)

@@ -1,11 +1,13 @@
 -- The delivered kinds of reading, picked by a table's code. Assumes nothing.
 use Rattle.std.specs.Prelude.{ℕ, cond, List, Some, None, Ok, Err, Option, Result, ◌==◌}
+use Rattle.std.specs.Option.{ok_or}
 use Rattle.readings.specs.Numbers.{number_code}
 use Rattle.readings.specs.Ports.{port_code}
 use Rattle.table.specs.Refusals.{answer}
 use Rattle.table.specs.Tables.{Table, table_alone, table_front}
 use Rattle.table.specs.Wire.{and_then, field, refuse}
 use Rattle.table.specs.declared.fault.Fault.{Fault}
+use Rattle.table.specs.declared.fault.Reason.{Reason}
 use Rattle.table.specs.declared.fault.Reason.TheVariants as why
 use Rattle.table.specs.declared.kind.Kind.{Kind}
 use Rattle.table.specs.declared.kind.Kind.TheVariants.{Numbers, Ports}
@@ -20,6 +22,10 @@ kind_of code = cond (code == number_code) (Some Numbers) (cond (code == port_cod
 abbrev pub or_foreign : Option Kind → Result Kind Fault
 or_foreign None = refuse why.TableField 0
 or_foreign (Some k) = Ok k
+
+-- the kind with this code, or why there is none
+abbrev pub named_by : ℕ → Result Kind Reason
+named_by code = ok_or (kind_of code) why.TableField
 
 -- the kind that the first field names; a code of no kind is foreign
 abbrev pub named_kind : List ℕ → Result Kind Fault

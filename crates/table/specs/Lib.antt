@@ -1,5 +1,4 @@
 pub mod Delivered
-pub mod Figures
 pub mod Limits
 pub mod Nodes
 pub mod Readers

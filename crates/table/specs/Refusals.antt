@@ -19,6 +19,10 @@ number Count = 11
 number Copy = 12
 number Events = 13
 
+-- the largest word
+abbrev pub most_word : ℕ
+most_word = 4294967295
+
 -- a refusal as one number, for callers in C
 abbrev pub answer : Fault → ℕ
 answer e = e.place * 256 + number e.reason

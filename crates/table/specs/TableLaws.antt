@@ -4,8 +4,8 @@ use Rattle.std.specs.Option.{unwrap_or}
 use Rattle.std.specs.List.{AllByRecursion}
 use Rattle.table.specs.Limits.{max_switches, max_nodes, max_rules, register_count}
 use Rattle.table.specs.Nodes.{decoded, node_fits, rule_fits}
-use Rattle.table.specs.Tables.{Table, sound, between, table_bytes, table_length, table_front, table_alone, node_size, rule_size, nodes_start, rules_start, starts_start}
-use Rattle.table.specs.Wire.{word_at, fault}
+use Rattle.table.specs.Tables.{Table, sound, table_bytes, table_length, table_front, table_alone, node_size, rule_size, nodes_start, rules_start, starts_start}
+use Rattle.table.specs.Wire.{word_at, fault, between}
 use Rattle.table.specs.declared.fault.Fault.{Fault}
 use Rattle.table.specs.declared.fault.Reason.TheVariants as why
 use Rattle.table.specs.declared.node.Node.{Node}

@@ -1,9 +1,9 @@
 -- The rule table: its value, its bytes, and what reading the bytes answers. Assumes nothing.
-use Rattle.std.specs.Prelude.{ℕ, zero, suc, ◌+◌, ◌*◌, ◌^◌, Bool, true, cond, ◌&&◌, List, [], ◌∷◌, ◌++◌, length, Some, None, Ok, Option, Result, ◌==◌, nat_eq, nat_le, nat_lt, slice_index}
+use Rattle.std.specs.Prelude.{ℕ, zero, suc, ◌+◌, ◌*◌, ◌^◌, Bool, true, cond, ◌&&◌, List, [], ◌∷◌, ◌++◌, length, Some, None, Ok, Option, Result, ◌==◌, nat_eq, nat_lt, slice_index}
 use Rattle.std.specs.List.{flat_map}
 use Rattle.table.specs.Limits.{max_switches, max_nodes, max_rules, register_count}
 use Rattle.table.specs.Nodes.{kind_word, a_word, b_word, decoded, node_fits, rule_fits}
-use Rattle.table.specs.Wire.{word_at, word_bytes, refuse, field, and_then}
+use Rattle.table.specs.Wire.{word_at, word_bytes, refuse, field, and_then, between, tested_field}
 use Rattle.table.specs.declared.fault.Fault.{Fault}
 use Rattle.table.specs.declared.fault.Reason.TheVariants as why
 use Rattle.table.specs.declared.node.Node.{Node}
@@ -57,9 +57,6 @@ table_bytes t =
 
 -- A sound table
 
-abbrev pub between : ℕ → ℕ → ℕ → Bool
-between low high x = nat_le low x && nat_le x high
-
 abbrev pub is_word : ℕ → Bool
 is_word w = nat_lt w (2 ^ 32)
 
@@ -107,8 +104,8 @@ sound t =
 -- Reading the bytes, field by field
 
 -- a field whose value has to pass a test
-unfoldable pub tested : (ℕ → Bool) → List ℕ → ℕ → Result ℕ Fault
-tested ok bs i = and_then (field why.TableLength bs i) (λ w. cond (ok w) (Ok w) (refuse why.TableField i))
+abbrev pub tested : (ℕ → Bool) → List ℕ → ℕ → Result ℕ Fault
+tested = tested_field why.TableLength why.TableField
 
 -- node i, judged once its three words are read
 abbrev pub judged : ℕ → List Node → ℕ → Option Node → Result Node Fault

@@ -1,5 +1,5 @@
 -- Fields of 4 bytes, high byte first, and reading one field after another. Assumes nothing.
-use Rattle.std.specs.Prelude.{ℕ, ◌+◌, ◌*◌, ◌/◌, ◌%◌, cond, List, [], ◌∷◌, length, Ok, Err, Result, nat_le, slice_index}
+use Rattle.std.specs.Prelude.{ℕ, ◌+◌, ◌*◌, ◌/◌, ◌%◌, Bool, cond, ◌&&◌, List, [], ◌∷◌, length, Ok, Err, Result, nat_le, slice_index}
 use Rattle.table.specs.declared.fault.Fault.{Fault}
 use Rattle.table.specs.declared.fault.Reason.{Reason}
 
@@ -35,3 +35,11 @@ filled (Err e) x = Err e
 abbrev pub counted : {C A : Type 0} → Result C Fault → (C → A) → Result A Fault
 counted (Ok c) f = Ok (f c)
 counted (Err e) f = Err e
+
+-- a field whose value has to pass a test, and else is refused as wrong
+unfoldable pub tested_field : Reason → Reason → (ℕ → Bool) → List ℕ → ℕ → Result ℕ Fault
+tested_field short wrong ok bs i = and_then (field short bs i) (λ w. cond (ok w) (Ok w) (refuse wrong i))
+
+-- x lies between two numbers
+abbrev pub between : ℕ → ℕ → ℕ → Bool
+between low high x = nat_le low x && nat_le x high

@@ -1,36 +1,37 @@
 // A refusal: why, and where.
-ghost use Rattle.table.specs.Refusals.{number};
-ghost use Rattle.std.specs.Prelude.{◌≡◌};
+ghost use Rattle.table.specs.Refusals.{answer, most_word, number};
+ghost use Rattle.table.specs.Wire.{fault};
+ghost use Rattle.std.specs.Prelude.{◌≡◌, min};
 
-// Why a call refuses.
+// Why a call refuses. The values are the refusals' numbers.
 #[derive(Clone, Copy, Debug, PartialEq)]
 pub enum Reason {
     // The table ends early or has bytes left.
-    TableLength,
+    TableLength = 1,
     // The code is foreign, or a count is out of range.
-    TableField,
+    TableField = 2,
     // A node is against the node kinds.
-    Node,
+    Node = 3,
     // A rule's switch or node is out of range, or its node is no truth node.
-    Rule,
+    Rule = 4,
     // Memory, hand, table or carrier of the wrong shape.
-    Shape,
+    Shape = 5,
     // The fleet is shut.
-    Shut,
+    Shut = 6,
     // A switch that the table lacks.
-    Switch,
+    Switch = 7,
     // A register or node number that is too large.
-    Operand,
+    Operand = 8,
     // No space in the carrier.
-    Full,
+    Full = 9,
     // The copy is not held.
-    NotHeld,
+    NotHeld = 10,
     // The own count cannot grow.
-    Count,
+    Count = 11,
     // Bytes of a copy that are short, left over, or not as given.
-    Copy,
+    Copy = 12,
     // The events of a rehearsal are short, left over, too many, or no calls.
-    Events,
+    Events = 13,
 }
 
 impl Reason {
@@ -38,20 +39,16 @@ impl Reason {
     pub fn number(self) -> u32
         ensures { result ≡ number self }
     {
-        match self {
-            Reason::TableLength => 1,
-            Reason::TableField => 2,
-            Reason::Node => 3,
-            Reason::Rule => 4,
-            Reason::Shape => 5,
-            Reason::Shut => 6,
-            Reason::Switch => 7,
-            Reason::Operand => 8,
-            Reason::Full => 9,
-            Reason::NotHeld => 10,
-            Reason::Count => 11,
-            Reason::Copy => 12,
-            Reason::Events => 13,
+        self as u32
+    }
+
+    // The refusal for this reason at a place.
+    pub fn at(self, place: usize) -> Fault
+        ensures { result ≡ fault self place }
+    {
+        Fault {
+            reason: self,
+            place,
         }
     }
 }
@@ -61,4 +58,26 @@ impl Reason {
 pub struct Fault {
     pub reason: Reason,
     pub place: usize,
+}
+
+impl Fault {
+    // The refusal as one number, for callers in C: the place times 256, and the refusal's number; at most the largest word.
+    pub fn packed(self) -> u32
+        ensures { result ≡ min (answer self) most_word }
+    {
+        let answer = self
+            .place
+            .saturating_mul(256)
+            .saturating_add(self.reason.number() as usize);
+        u32::try_from(answer).unwrap_or(u32::MAX)
+    }
+}
+
+// A refusal that names no place.
+impl From<Reason> for Fault {
+    ghost from_gives = { λ reason r. r ≡ fault reason 0 };
+
+    fn from(reason: Reason) -> Fault {
+        reason.at(0)
+    }
 }

@@ -1,19 +1,20 @@
-// The call for firmware in C.
+// The call for firmware in C, and what its answer is made of.
 ghost use Rattle.table.specs.Delivered.{delivered, packed};
-ghost use Rattle.table.specs.Refusals.{answer};
-ghost use Rattle.table.specs.Tables.{longest_table};
-ghost use Rattle.std.specs.Prelude.{◌≡◌, ◌≤◌};
+ghost use Rattle.table.specs.Refusals.{most_word};
+ghost use Rattle.std.specs.Prelude.{◌≡◌, min};
 
 use crate::fault::Fault;
 use crate::kind::check_delivered;
 use crate::table::{Checked, Draft};
 
-// A refusal as one number: the place times 256, and the refusal's number.
-fn as_number(fault: Fault) -> u32
-    requires { fault.place ≤ longest_table }
-    ensures { result ≡ answer fault }
+// The answer of a call for C: 0, or the refusal as one number.
+pub fn answered<T: Drop>(answer: Result<T, Fault>) -> u32
+    ensures { result ≡ min (packed answer) most_word }
 {
-    fault.place as u32 * 256 + fault.reason.number()
+    match answer {
+        Ok(_) => 0,
+        Err(fault) => fault.packed(),
+    }
 }
 
 // Checks a rule table of either delivered kind: 0 where it is accepted, else the refusal.
@@ -22,8 +23,5 @@ pub extern "C" fn table_check(bytes: &[u8]) -> u32
     ensures { result ≡ packed (delivered bytes.now) }
 {
     let mut place = Checked::worked();
-    match check_delivered(Draft::new(bytes), &mut place) {
-        Ok(_) => 0,
-        Err(fault) => as_number(fault),
-    }
+    answered(check_delivered(Draft::new(bytes), &mut place))
 }

@@ -1,4 +1,6 @@
 // The nodes of a rule table: formulas and readings, each over nodes before it.
+ghost use Rattle.std.specs.Prelude.{◌≡◌, false};
+ghost use Rattle.table.specs.declared.node.Node.TheVariants.{Truth};
 
 // A node. Numbers of nodes, switches and registers are as the table has them.
 #[derive(Clone, Copy)]
@@ -26,8 +28,17 @@ pub enum Node {
     ReadingAt(usize, usize),
 }
 
+// What a place that no node was put into holds.
+impl Default for Node {
+    ghost is_default = { λ node. node ≡ Truth false };
+
+    fn default() -> Node {
+        Node::Truth(false)
+    }
+}
+
 // A truth node that has to hold at a switch.
-#[derive(Clone, Copy)]
+#[derive(Clone, Copy, Default)]
 pub struct Rule {
     pub switch: usize,
     pub node: usize,

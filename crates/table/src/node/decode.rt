@@ -35,6 +35,7 @@ fn register(index: usize, rest: u32) -> Option<Node>
 }
 
 // A truth node that `earlier` has at `a`.
+#[tactic(auto, using(std::proofs::lemmas::List::get_or_read), unfolding(crate::specs::Nodes::truth_node))]
 fn truth_node(earlier: &[Node], a: usize) -> bool
     ensures { result ≡ truth_node earlier.now a }
 {
@@ -42,6 +43,7 @@ fn truth_node(earlier: &[Node], a: usize) -> bool
 }
 
 // A reading node that `earlier` has at `a`.
+#[tactic(auto, using(std::proofs::lemmas::List::get_or_read), unfolding(crate::specs::Nodes::reading_node))]
 fn reading_node(earlier: &[Node], a: usize) -> bool
     ensures { result ≡ reading_node earlier.now a }
 {
@@ -49,6 +51,7 @@ fn reading_node(earlier: &[Node], a: usize) -> bool
 }
 
 impl Node {
+    // Not `TryFrom`: three words are no type of their own, and a bad node has no reason but its place.
     // The node with these three words, or none where the kind does not exist or a word is not allowed.
     pub fn decode(kind: u32, a: u32, b: u32) -> Option<Node>
         ensures { result ≡ decoded kind a b }

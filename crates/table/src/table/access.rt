@@ -29,16 +29,14 @@ impl<'a> Checked<'a> {
         ensures value { result.now ≡ (view self.now).nodes }
         ensures few { length result.now ≤ max_nodes }
     {
-        let count = self.node_count;
-        &self.nodes[0..count]
+        &self.nodes
     }
 
     pub fn rules(&self) -> &[Rule]
         ensures value { result.now ≡ (view self.now).rules }
         ensures few { length result.now ≤ max_rules }
     {
-        let count = self.rule_count;
-        &self.rules[0..count]
+        &self.rules
     }
 
     // The word that a register starts with, if the table has the switch and the register.

@@ -1,16 +1,40 @@
 // Reads the parts of a rule table, in their order.
-ghost use Rattle.std.specs.Prelude.{◌≡◌, ◌+◌, ◌*◌, ◌≤◌, [], length, take, is_ok, IfOk, nat_eq};
+ghost use Rattle.std.specs.Prelude.{◌≡◌, ℕ, ◌+◌, ◌*◌, ◌≤◌, List, [], length, is_ok, IfOk, Result};
 ghost use Rattle.table.specs.Limits.{max_nodes, max_rules, max_switches, register_count};
-ghost use Rattle.table.specs.Readers.{Advanced, Counted};
-ghost use Rattle.table.specs.Tables.{between, header_of, judged, node_at, node_size, nodes_from, nodes_start, rule_at, rule_size, rules_from, rules_of, rules_start, starts_of, starts_start, tested, words_at, words_from};
-ghost use Rattle.table.specs.Wire.{counted, fault, filled};
+ghost use Rattle.table.specs.Readers.{Advanced};
+ghost use Rattle.table.specs.Tables.{header_of, items_from, judged, node_at, node_size, nodes_from, nodes_start, rule_at, rule_size, rules_of, rules_start, starts_of, starts_start, words_at, words_from};
+ghost use Rattle.table.specs.Wire.{counted, filled};
+ghost use Rattle.table.specs.declared.fault.Fault.{Fault};
+ghost use Rattle.table.specs.declared.node.Node.{Node};
 ghost use Rattle.table.specs.declared.fault.Reason.TheVariants.{TableField, TableLength};
 
 use crate::fault::{Fault, Reason};
 use crate::limits::{MAX_NODES, MAX_RULES, MAX_SWITCHES, REGISTERS};
 use crate::node::{Node, Rule};
-use crate::reader::Reader;
+use crate::reader::{Reader, Refusals};
+use crate::table::{Nodes, Rules};
+use arrayvec::ArrayVec;
 use readings::reading::Reading;
+
+// Why a reader of a rule table refuses.
+#[derive(Drop)]
+pub(crate) struct TableRefusals;
+
+impl Refusals for TableRefusals {
+    ghost short = { λ _. TableLength };
+
+    ghost wrong = { λ _. TableField };
+
+    fn short(&self) -> Reason {
+        Reason::TableLength
+    }
+
+    fn wrong(&self) -> Reason {
+        Reason::TableField
+    }
+}
+
+pub(crate) type TableReader<'a> = Reader<'a, TableRefusals>;
 
 // The numbers of switches and nodes.
 #[derive(Clone, Copy)]
@@ -25,81 +49,103 @@ fn judge(node: Option<Node>, switches: usize, earlier: &[Node]) -> Result<Node, 
 {
     match node {
         Some(x) if x.fits(switches, earlier) => Ok(x),
-        _ => Err(Fault {
-            reason: Reason::Node,
-            place: earlier.len(),
-        }),
+        _ => Err(Reason::Node.at(earlier.len())),
     }
 }
 
-// The next node, after those of `earlier`.
-fn read_node(reader: &mut Reader, switches: usize, earlier: &[Node]) -> Result<Node, Fault>
-    requires { reader.old.short ≡ TableLength }
-    ensures value { result ≡ node_at switches reader.old.bytes.now reader.old.at earlier.now }
-    ensures reader { Advanced reader.old reader.new (is_ok result) node_size }
-{
-    let kind = reader.field()?;
-    let a = reader.field()?;
-    let b = reader.field()?;
-    judge(Node::decode(kind, a, b), switches, earlier)
+// What stands in an array of a table.
+pub(crate) trait Element: Default + Drop {
+    ghost size: { ℕ };
+
+    // What is read at an offset, in a table of so many switches with these nodes, after the elements before it.
+    ghost read: { ℕ → List Node → List ℕ → ℕ → List Self → Result Self Fault };
+
+    fn read(
+        reader: &mut TableReader,
+        switches: usize,
+        nodes: &[Node],
+        earlier: &[Self],
+    ) -> Result<Self, Fault>
+        ensures value { result ≡ read switches nodes.now reader.old.bytes.now reader.old.at earlier.now }
+        ensures reader { Advanced reader.old reader.new (is_ok result) size };
 }
 
-// Rule `i`, about one of `nodes`.
-fn read_rule(reader: &mut Reader, switches: usize, nodes: &[Node], i: usize) -> Result<Rule, Fault>
-    requires { reader.old.short ≡ TableLength }
-    ensures value { result ≡ rule_at switches nodes.now reader.old.bytes.now reader.old.at i }
-    ensures reader { Advanced reader.old reader.new (is_ok result) rule_size }
-{
-    let switch = reader.field()? as usize;
-    let node = reader.field()? as usize;
-    let rule = Rule { switch, node };
-    if !rule.fits(switches, nodes) {
-        return Err(Fault {
-            reason: Reason::Rule,
-            place: i,
-        });
+impl Element for Node {
+    ghost size = { node_size };
+
+    ghost read = { λ switches _ bytes at earlier. node_at switches bytes at earlier };
+
+    fn read(
+        reader: &mut TableReader,
+        switches: usize,
+        _nodes: &[Node],
+        earlier: &[Node],
+    ) -> Result<Node, Fault> {
+        let kind = reader.field()?;
+        let a = reader.field()?;
+        let b = reader.field()?;
+        judge(Node::decode(kind, a, b), switches, earlier)
     }
-    Ok(rule)
 }
 
-// The first `count` nodes, into the front of `nodes`.
-pub(crate) fn read_nodes(
-    reader: &mut Reader,
-    switches: usize,
-    count: usize,
-    nodes: &mut [Node],
-) -> Result<(), Fault>
-    requires { (reader.old.short ≡ TableLength) × (count ≤ length nodes.old) }
-    ensures value { filled result (take count nodes.new) ≡ nodes_from switches reader.old.bytes.now reader.old.at count [] }
-    ensures reader { Advanced reader.old reader.new (is_ok result) (count * node_size) }
-{
-    for i in 0..count {
-        nodes[i] = read_node(reader, switches, &nodes[0..i])?;
+impl Element for Rule {
+    ghost size = { rule_size };
+
+    ghost read = { λ switches nodes bytes at earlier. rule_at switches nodes bytes at (length earlier) };
+
+    fn read(
+        reader: &mut TableReader,
+        switches: usize,
+        nodes: &[Node],
+        earlier: &[Rule],
+    ) -> Result<Rule, Fault> {
+        let switch = reader.field()? as usize;
+        let node = reader.field()? as usize;
+        let rule = Rule { switch, node };
+        if !rule.fits(switches, nodes) {
+            return Err(Reason::Rule.at(earlier.len()));
+        }
+        Ok(rule)
     }
-    Ok(())
 }
 
-// The first `count` rules, into the front of `rules`.
-fn read_rules(
-    reader: &mut Reader,
+// The next `count` elements. Reader, switches and nodes are no struct: the nodes come in once the reader has read them.
+fn read_array<T: Element, const N: usize>(
+    reader: &mut TableReader,
     switches: usize,
     nodes: &[Node],
     count: usize,
-    rules: &mut [Rule],
-) -> Result<(), Fault>
-    requires { (reader.old.short ≡ TableLength) × (count ≤ length rules.old) }
-    ensures value { filled result (take count rules.new) ≡ rules_from switches nodes.now reader.old.bytes.now reader.old.at count [] }
-    ensures reader { Advanced reader.old reader.new (is_ok result) (count * rule_size) }
+) -> Result<ArrayVec<T, N>, Fault>
+    requires { count ≤ N }
+    ensures value { counted result (λ array. array.items) ≡ items_from (T.read switches nodes.now reader.old.bytes.now) T.size reader.old.at count [] }
+    ensures many { IfOk result (λ array. length array.items ≡ count) }
+    ensures reader { Advanced reader.old reader.new (is_ok result) (count * T.size) }
 {
-    for i in 0..count {
-        rules[i] = read_rule(reader, switches, nodes, i)?;
+    let mut array = ArrayVec::new();
+    for _i in 0..count {
+        let element = T::read(reader, switches, nodes, &array)?;
+        array.push(element);
     }
-    Ok(())
+    Ok(array)
 }
 
-// Reads past `count` words.
-fn read_words(reader: &mut Reader, count: usize) -> Result<(), Fault>
-    requires { reader.old.short ≡ TableLength }
+// The next `count` nodes.
+pub(crate) fn read_nodes(
+    reader: &mut TableReader,
+    switches: usize,
+    count: usize,
+) -> Result<Nodes, Fault>
+    requires { count ≤ max_nodes }
+    ensures value { counted result (λ nodes. nodes.items) ≡ nodes_from switches reader.old.bytes.now reader.old.at count [] }
+    ensures many { IfOk result (λ nodes. length nodes.items ≡ count) }
+    ensures reader { Advanced reader.old reader.new (is_ok result) (count * node_size) }
+{
+    read_array::<Node, 48>(reader, switches, &[], count)
+}
+
+// Reads past `count` words. Not shared with the check of a copy, which says each field by itself: the table's law says the
+// words together, so one function for both would need a third statement and a proof for each.
+fn read_words(reader: &mut TableReader, count: usize) -> Result<(), Fault>
     ensures value { filled result (words_at reader.old.bytes.now reader.old.at count) ≡ words_from reader.old.bytes.now reader.old.at count [] }
     ensures reader { Advanced reader.old reader.new (is_ok result) (count * 4) }
 {
@@ -109,102 +155,48 @@ fn read_words(reader: &mut Reader, count: usize) -> Result<(), Fault>
     Ok(())
 }
 
-// A field at `at` that is out of range.
-fn out_of_range(at: usize) -> Fault
-    ensures { result ≡ fault TableField at }
-{
-    Fault {
-        reason: Reason::TableField,
-        place: at,
-    }
-}
-
-// The next field, if it lies between `low` and `high`.
-fn read_between(reader: &mut Reader, low: u32, high: u32) -> Result<usize, Fault>
-    requires { reader.old.short ≡ TableLength }
-    ensures value { result ≡ tested (between low high) reader.old.bytes.now reader.old.at }
-    ensures range { IfOk result (λ w. (low ≤ w) × (w ≤ high)) }
-    ensures reader { Advanced reader.old reader.new (is_ok result) 4 }
-{
-    let at = reader.offset();
-    let word = reader.field()?;
-    if word < low || word > high {
-        return Err(out_of_range(at));
-    }
-    Ok(word as usize)
-}
-
-// The next field, if it is the code of the kind.
-fn read_code<K: Reading>(reader: &mut Reader) -> Result<u32, Fault>
-    requires { reader.old.short ≡ TableLength }
-    ensures value { result ≡ tested (λ w. nat_eq w K.code) reader.old.bytes.now reader.old.at }
-    ensures reader { Advanced reader.old reader.new (is_ok result) 4 }
-{
-    let at = reader.offset();
-    let word = reader.field()?;
-    if !K::native(word) {
-        return Err(out_of_range(at));
-    }
-    Ok(word)
-}
-
 // The kind's code, the number of switches and the number of nodes.
-pub(crate) fn read_header<K: Reading>(reader: &mut Reader) -> Result<Header, Fault>
-    requires { (reader.old.short ≡ TableLength) × (reader.old.at ≡ 0) }
-    ensures value { result ≡ header_of K.code reader.old.bytes.now }
+pub(crate) fn read_header<K: Reading>(reader: &mut TableReader) -> Result<Header, Fault>
+    requires { reader.old.at ≡ 0 }
+    ensures value { result ≡ header_of K.CODE reader.old.bytes.now }
     ensures range { IfOk result (λ h. (h.switches ≤ max_switches) × (h.nodes ≤ max_nodes)) }
     ensures reader { Advanced reader.old reader.new (is_ok result) nodes_start }
 {
-    read_code::<K>(reader)?;
-    let switches = read_between(reader, 1, MAX_SWITCHES)?;
-    let nodes = read_between(reader, 1, MAX_NODES)?;
+    reader.field_between(K::CODE, K::CODE)?;
+    let switches = reader.field_between(1, MAX_SWITCHES)? as usize;
+    let nodes = reader.field_between(1, MAX_NODES)? as usize;
     Ok(Header { switches, nodes })
 }
 
-// The rules' count, and the rules into the front of `rules`.
+// The rules' count, and the rules.
 pub(crate) fn read_all_rules(
-    reader: &mut Reader,
+    reader: &mut TableReader,
     switches: usize,
     nodes: &[Node],
-    rules: &mut [Rule],
-) -> Result<usize, Fault>
-    requires { (reader.old.short ≡ TableLength) × ((reader.old.at ≡ nodes_start + length nodes.now * node_size) × (max_rules ≤ length rules.old)) }
-    ensures value { counted result (λ count. take count rules.new) ≡ rules_of switches nodes.now reader.old.bytes.now }
-    ensures reader { Counted reader.old reader.new result (λ count. 4 + count * rule_size) }
-    ensures few { IfOk result (λ count. count ≤ max_rules) }
+) -> Result<Rules, Fault>
+    requires { reader.old.at ≡ nodes_start + length nodes.now * node_size }
+    ensures value { counted result (λ rules. rules.items) ≡ rules_of switches nodes.now reader.old.bytes.now }
+    ensures few { IfOk result (λ rules. length rules.items ≤ max_rules) }
+    ensures bytes { reader.new.bytes.now ≡ reader.old.bytes.now }
+    ensures at { IfOk result (λ rules. reader.new.at ≡ reader.old.at + (4 + length rules.items * rule_size)) }
 {
-    let count = read_between(reader, 0, MAX_RULES)?;
-    read_rules(reader, switches, nodes, count, rules)?;
-    Ok(count)
-}
-
-// The next field, if it is `count`.
-fn read_exactly(reader: &mut Reader, count: usize) -> Result<usize, Fault>
-    requires { reader.old.short ≡ TableLength }
-    ensures value { result ≡ tested (λ w. nat_eq w count) reader.old.bytes.now reader.old.at }
-    ensures count { IfOk result (λ w. w ≡ count) }
-    ensures reader { Advanced reader.old reader.new (is_ok result) 4 }
-{
-    let at = reader.offset();
-    let word = reader.field()? as usize;
-    if word != count {
-        return Err(out_of_range(at));
-    }
-    Ok(word)
+    let count = reader.field_between(0, MAX_RULES)? as usize;
+    read_array::<Rule, 16>(reader, switches, nodes, count)
 }
 
 // Reads past the starting words' count and the words.
 pub(crate) fn read_starts(
-    reader: &mut Reader,
+    reader: &mut TableReader,
     switches: usize,
     nodes: usize,
     rules: usize,
 ) -> Result<(), Fault>
-    requires { (reader.old.short ≡ TableLength) × ((reader.old.at ≡ rules_start nodes + rules * rule_size) × (switches ≤ max_switches)) }
+    requires after { reader.old.at ≡ rules_start nodes + rules * rule_size }
+    requires few { switches ≤ max_switches }
     ensures value { filled result (words_at reader.old.bytes.now (starts_start nodes rules) (register_count * switches)) ≡ starts_of switches nodes rules reader.old.bytes.now }
     ensures reader { Advanced reader.old reader.new (is_ok result) (4 + register_count * switches * 4) }
 {
     let words = REGISTERS * switches;
-    read_exactly(reader, words)?;
+    reader.field_between(words as u32, words as u32)?;
     read_words(reader, words)
 }

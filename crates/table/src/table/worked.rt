@@ -4,7 +4,8 @@ ghost use Rattle.table.specs.Worked.{worked_table};
 ghost use Rattle.std.specs.Prelude.{◌≡◌};
 
 use crate::node::{Node, Rule};
-use crate::table::Checked;
+use crate::table::{Checked, Nodes, Rules};
+use arrayvec::ArrayVec;
 
 // Switch 1 has to know no reading of switch 0 above its own, now and ever.
 static BYTES: [u8; 172] = [
@@ -27,25 +28,37 @@ static BYTES: [u8; 172] = [
     0, 0, 0, 0, 0,
 ];
 
+// Register 0, its reading at switch 0, whether that is within the own one, and whether it always was.
+fn nodes() -> Nodes
+    ensures { result.items ≡ worked_table.nodes }
+{
+    let mut nodes = ArrayVec::new();
+    nodes.push(Node::Register(0));
+    nodes.push(Node::ReadingAt(0, 0));
+    nodes.push(Node::Within(1, 0));
+    nodes.push(Node::Always(2));
+    nodes
+}
+
+// The last node has to hold at switch 1.
+fn rules() -> Rules
+    ensures { result.items ≡ worked_table.rules }
+{
+    let mut rules = ArrayVec::new();
+    rules.push(Rule { switch: 1, node: 3 });
+    rules
+}
+
 impl<'a> Checked<'a> {
     // The worked table.
     pub fn worked() -> Checked<'a>
         ensures { view result ≡ worked_table }
     {
-        let mut nodes = [Node::Truth(false); 48];
-        nodes[0] = Node::Register(0);
-        nodes[1] = Node::ReadingAt(0, 0);
-        nodes[2] = Node::Within(1, 0);
-        nodes[3] = Node::Always(2);
-        let mut rules = [Rule { switch: 0, node: 0 }; 16];
-        rules[0] = Rule { switch: 1, node: 3 };
         Checked {
             bytes: &BYTES,
             switches: 3,
-            node_count: 4,
-            rule_count: 1,
-            nodes,
-            rules,
+            nodes: nodes(),
+            rules: rules(),
         }
     }
 }

@@ -9,13 +9,13 @@ pub invariant_of-result : goal.invariant_of-result
 unfolding sound table_bytes nodes_sound words_at word_at truth_node reading_node
 invariant_of-result c = record {
   few_switches = lit≤ tt;
-  few_nodes = lit≤ tt;
-  few_rules = lit≤ tt;
-  long = refl;
-  fit = refl;
-  coded = refl;
+  few_nodes = rw c.nodes.ensures (lit≤ tt);
+  few_rules = rw c.rules.ensures (lit≤ tt);
+  long = rw (c.nodes.ensures, c.rules.ensures) refl;
+  fit = rw (c.nodes.ensures, c.rules.ensures) refl;
+  coded = rw (c.nodes.ensures, c.rules.ensures) refl;
 }
 
 pub returns : goal.returns
 unfolding words_at word_at
-returns c = refl
+returns c = rw (c.nodes.ensures, c.rules.ensures) refl
