@@ -1,5 +1,5 @@
 -- The first words, one switch and one node after another. Assumes nothing.
-use Rattle.std.proofs.Common.{◌≡◌, ℕ, ◌+◌, ◌<◌, ◌≤◌, List, length, get_or, drop, sym, refl, ap, ◌∙◌, add-one}
+use Rattle.std.proofs.Common.{◌≡◌, ℕ, ◌+◌, ◌<◌, ◌≤◌, List, length, get_or, drop, sym, ap, ◌∙◌, add-one}
 use Rattle.std.proofs.lemmas.List.{drop_more, drop_all}
 use Rattle.table.specs.Tables.{Table}
 use Rattle.table.specs.declared.node.Node.{Node}
@@ -7,10 +7,6 @@ use Rattle.step.specs.Nodes.{WordKind}
 use Rattle.step.specs.Opening.{column, columns, opened_one}
 
 module _ (k : WordKind) (t : Table) where
-  pub column_none : (x : Node) (i : ℕ) (block : List ℕ) → block ≡ column k t x i block 0
-  unfolding column
-  column_none x i block = refl
-
   -- one switch more
   pub column_more : (x : Node) (i : ℕ) (block : List ℕ) (j : ℕ) → opened_one k t x i (column k t x i block j) j ≡ column k t x i block (j + 1)
   unfolding column

@@ -6,8 +6,8 @@ use Rattle.std.proofs.lemmas.Bool.{cases_eq, cases_order}
 use Rattle.std.specs.List.{AllByRecursion}
 use Rattle.table.specs.Tables.{Table, sound, node_holds}
 use Rattle.table.specs.declared.node.Node.{Node}
-use Rattle.step.specs.Logic.{Kind, Lawful, on_words}
-use Rattle.step.specs.Nodes.{WordKind, first, word_in}
+use Rattle.readings.specs.Kinds.{Kind, Lawful}
+use Rattle.step.specs.Nodes.{on_words, WordKind, first, word_in}
 use Rattle.step.specs.Opening.{column, columns, first_sight, first_word, start_registers}
 use Rattle.step.specs.Records.{record_start, records_length}
 use Rattle.step.specs.StepLaws.{Words}

@@ -2,7 +2,8 @@
 use Rattle.std.proofs.Common.{◌≡◌, ℕ, suc, ◌<◌, Bool, true, false, not, ◌&&◌, eqb, ltb, List, [], ◌∷◌, length, get_or, refl, ap, ◌∙◌, w32, Fits}
 use Rattle.readings.specs.Ports.{has}
 use Rattle.table.specs.Tables.{Table, sound}
-use Rattle.step.specs.Logic.{Kind, Lawful, on_words}
+use Rattle.readings.specs.Kinds.{Kind, Lawful}
+use Rattle.step.specs.Nodes.{on_words}
 use Rattle.step.specs.StepLaws.{Words, StepLaw, OpeningLaw}
 use Rattle.step.specs.Steps.{Fitting, own_mask, own_words}
 use Rattle.step.proofs.MaskBits.{mask_has}

@@ -1,3 +1,5 @@
+pub mod Acting
+pub mod Becoming
 pub mod Columns
 pub mod FirstWords
 pub mod Laws
@@ -6,12 +8,11 @@ pub mod Masks
 pub mod NewWords
 pub mod Obeying
 pub mod OpeningMeaning
-pub mod OwnRecord
 pub mod Ready
 pub mod RecordLaws
+pub mod Refused
 pub mod Rows
 pub mod Starts
 pub mod StepMeaning
 pub mod TableNames
-pub mod Takeover
 pub mod Told

@@ -1,14 +1,15 @@
 -- A node's word, worked out from what a switch sees, stands for the value that the logic says. Assumes nothing.
 use Rattle.std.proofs.Common.{◌≡◌, ℕ, zero, suc, ◌^◌, ◌<◌, Bool, true, false, cond, not, ◌&&◌, ◌||◌, eqb, ltb, List, [], ◌∷◌, get_or, sym, refl, ap, ◌∙◌, arith, ltb-true}
+use Rattle.std.proofs.lemmas.Bool.{and_parts}
 use Rattle.table.specs.Tables.{node_holds}
 use Rattle.table.specs.declared.node.Node.{Node}
 use Rattle.table.specs.declared.node.Node.TheVariants.{Truth, Not, And, Or, Implies, Iff, Previously, Once, Always, Since, TruthAt, Within, Same, Constant, Register, Join, Cut, ReadingAt}
-use Rattle.step.specs.Logic.{Kind, Lawful, Values, Before, values_of, on_words, previously, once, always, since, Obeys}
+use Rattle.readings.specs.Kinds.{Kind, Lawful}
+use Rattle.step.specs.Logic.{Values, Before, values_of, previously, once, always, since, Obeys}
+use Rattle.step.specs.Nodes.{on_words, Sight, Past, word_in, here, there, node_word}
 use Rattle.step.specs.Names.{names_below}
-use Rattle.step.specs.Nodes.{Sight, Past, word_in, here, there, node_word}
 use Rattle.step.specs.StepLaws.{Words}
 use Rattle.step.specs.Truths.{truth, truth_word, implied, iff}
-use Rattle.step.proofs.NewWords.{and_left, and_right}
 
 truth_back : (b : Bool) → truth (truth_word b) ≡ b
 truth_back true = refl
@@ -87,8 +88,8 @@ module _ {R : Type 0} (k : Kind R) (held : R → Type 0) (law : Lawful k held) w
 
       two : {A : Type 0} (f : ℕ → ℕ → A) (a b : ℕ) → (ltb a i && ltb b i) ≡ true → f (here v a) (here v b) ≡ f (get_or ws a 0) (get_or ws b 0)
       two f a b h =
-          let p = sym (seen.own a (ltb-true a i (and_left _ _ h))) in
-          let q = sym (seen.own b (ltb-true b i (and_right _ _ h))) in
+          let p = sym (seen.own a (ltb-true a i (and_parts _ _ h).0)) in
+          let q = sym (seen.own b (ltb-true b i (and_parts _ _ h).1)) in
           (λ z. f (p z) (q z))
 
       -- the truth that is written, read back
@@ -106,7 +107,7 @@ module _ {R : Type 0} (k : Kind R) (held : R → Type 0) (law : Lawful k held) w
       obeys (Once a) named holds e = told _ e ∙ seen.ever _ ∙ one (λ x. once old (truth x) i) a named
       obeys (Always a) named holds e = told _ e ∙ seen.throughout _ ∙ one (λ x. always old (truth x) i) a named
       obeys (Since a b) named holds e = told _ e ∙ seen.from_then _ _ ∙ two (λ x y. since old (truth x) (truth y) i) a b named
-      obeys (TruthAt j b) named holds e = told _ e ∙ sym (seen.truths j b (ltb-true j n (and_left _ _ named)) (ltb-true b i (and_right _ _ named)))
+      obeys (TruthAt j b) named holds e = told _ e ∙ sym (seen.truths j b (ltb-true j n (and_parts _ _ named).0) (ltb-true b i (and_parts _ _ named).1))
       obeys (Within a b) named holds e = told _ e ∙ two (λ x y. k.inside (k.reading x) (k.reading y)) a b named
       obeys (Same a b) named holds e = told _ e ∙ two (λ x y. k.equal (k.reading x) (k.reading y)) a b named
       obeys (Constant w) named holds e = ap k.reading e ∙ law.back _ (law.reads w (ltb-true _ _ holds))
@@ -116,4 +117,4 @@ module _ {R : Type 0} (k : Kind R) (held : R → Type 0) (law : Lawful k held) w
       obeys (Cut a b) named holds e =
           ap k.reading e ∙ law.back _ (law.cuts _ _ (here_held a) (here_held b)) ∙ two (λ x y. k.less (k.reading x) (k.reading y)) a b named
       obeys (ReadingAt j b) named holds e =
-          ap k.reading e ∙ law.back _ (there_held j b) ∙ sym (seen.readings j b (ltb-true j n (and_left _ _ named)) (ltb-true b i (and_right _ _ named)))
+          ap k.reading e ∙ law.back _ (there_held j b) ∙ sym (seen.readings j b (ltb-true j n (and_parts _ _ named).0) (ltb-true b i (and_parts _ _ named).1))

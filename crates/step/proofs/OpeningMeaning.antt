@@ -9,8 +9,9 @@ use Rattle.std.proofs.lemmas.Bool.{eqb-true}
 use Rattle.table.specs.Limits.{register_count}
 use Rattle.table.specs.Tables.{Table, sound}
 use Rattle.table.specs.declared.node.Node.{Node}
-use Rattle.step.specs.Logic.{Kind, Lawful, values_of, on_words, none}
-use Rattle.step.specs.Nodes.{WordKind, first, there, word_in}
+use Rattle.readings.specs.Kinds.{Kind, Lawful}
+use Rattle.step.specs.Logic.{values_of, none}
+use Rattle.step.specs.Nodes.{on_words, WordKind, first, there, word_in}
 use Rattle.step.specs.Opening.{columns, opened, first_sight, start_registers}
 use Rattle.step.specs.Records.{block_length, record_start, records_length, record_of, registers_of, count_of}
 use Rattle.step.specs.StepLaws.{Words, OpeningMeaning, record_words}

@@ -6,8 +6,9 @@ use Rattle.std.specs.List.{AllByRecursion}
 use Rattle.table.specs.Limits.{register_count}
 use Rattle.table.specs.Tables.{Table, sound, node_holds}
 use Rattle.table.specs.declared.node.Node.{Node}
-use Rattle.step.specs.Logic.{Kind, Lawful, values_of, on_words, after}
-use Rattle.step.specs.Nodes.{WordKind, later, word_in}
+use Rattle.readings.specs.Kinds.{Kind, Lawful}
+use Rattle.step.specs.Logic.{values_of, after}
+use Rattle.step.specs.Nodes.{on_words, WordKind, later, word_in}
 use Rattle.step.specs.Records.{records_length, registers_of}
 use Rattle.step.specs.StepLaws.{Words, StepMeaning, known, record_words}
 use Rattle.step.specs.Steps.{Fitting, new_words, own_word, own_words, sight}

@@ -1,5 +1,6 @@
 -- What the words of a record and of a sound table are. Assumes nothing.
 use Rattle.std.proofs.Common.{◌≡◌, ℕ, ◌+◌, ◌*◌, ◌^◌, ◌<◌, true, false, List, [], ◌∷◌, length, get_or, take, drop, ap, ◌∙◌, arith, ltb-true}
+use Rattle.std.proofs.lemmas.Bool.{and_parts}
 use Rattle.std.proofs.ByRecursion.{All-from_get_or, All-get_or, All-take, All-drop}
 use Rattle.std.proofs.lemmas.List.{get_or-take, get_or-drop}
 use Rattle.std.specs.List.{AllByRecursion}
@@ -12,7 +13,6 @@ use Rattle.step.specs.Nodes.{word_in}
 use Rattle.step.specs.Opening.{start_registers}
 use Rattle.step.specs.Records.{record_start}
 use Rattle.step.specs.StepLaws.{Words, record_words}
-use Rattle.step.proofs.NewWords.{and_left, and_right}
 
 -- word b of record j
 pub record_word : (m : ℕ) (block : List ℕ) (j b : ℕ) → b < m → get_or (record_words m block j) b 0 ≡ word_in m block j b
@@ -25,7 +25,7 @@ record_word m block j b lt =
 
 words_all : (ws : List ℕ) → every is_word ws ≡ true → Words ws
 words_all [] h = tt
-words_all (w ∷ ws) h = (ltb-true _ _ (and_left _ _ h), words_all ws (and_right _ _ h))
+words_all (w ∷ ws) h = (ltb-true _ _ (and_parts _ _ h).0, words_all ws (and_parts _ _ h).1)
 
 module _ (t : Table) (is_sound : sound t ≡ true) where
   pub all_hold : AllByRecursion (λ x. node_holds x ≡ true) t.nodes

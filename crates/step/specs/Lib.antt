@@ -1,10 +1,11 @@
+pub mod Blocks
 pub mod Events
 pub mod Logic
 pub mod Names
 pub mod Nodes
 pub mod Opening
-pub mod Places
 pub mod Records
+pub mod Refusing
 pub mod Sights
 pub mod StepLaws
 pub mod Steps

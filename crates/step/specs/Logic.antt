@@ -1,41 +1,9 @@
 -- The logic: what the value of each node is at one state of a switch. Assumes nothing.
-use Rattle.std.specs.Prelude.{◌≡◌, ℕ, ◌^◌, ◌<◌, Bool, not, ◌&&◌, ◌||◌, List, length, slice_index, slice_index_or}
+use Rattle.std.specs.Prelude.{◌≡◌, ℕ, ◌<◌, Bool, not, ◌&&◌, ◌||◌, List, length, slice_index, slice_index_or}
 use Rattle.table.specs.declared.node.Node.{Node}
 use Rattle.table.specs.declared.node.Node.TheVariants.{Truth, Not, And, Or, Implies, Iff, Previously, Once, Always, Since, TruthAt, Within, Same, Constant, Register, Join, Cut, ReadingAt}
-use Rattle.step.specs.Nodes.{WordKind, word_kind}
+use Rattle.readings.specs.Kinds.{Kind}
 use Rattle.step.specs.Truths.{truth, implied, iff}
-
--- A kind of reading, by its meaning
-pub record Kind (R : Type 0) : Type 0 where
-  pub word : R → ℕ
-  pub reading : ℕ → R
-  pub joined : R → R → R
-  pub less : R → R → R
-  pub inside : R → R → Bool
-  pub equal : R → R → Bool
-
-abbrev pub kind_of : {R : Type 0} → (R → ℕ) → (ℕ → R) → (R → R → R) → (R → R → R) → (R → R → Bool) → (R → R → Bool) → Kind R
-kind_of word reading joined less inside equal = record {
-  word = word;
-  reading = reading;
-  joined = joined;
-  less = less;
-  inside = inside;
-  equal = equal;
-}
-
--- A kind that keeps its law: a reading turned into a word and back is that reading, of all the readings that there are,
--- and words are read as such
-pub record Lawful {R : Type 0} (k : Kind R) (held : R → Type 0) : Type 0 where
-  pub back : (r : R) → held r → k.reading (k.word r) ≡ r
-  pub fits : (r : R) → held r → k.word r < 2 ^ 32
-  pub reads : (w : ℕ) → w < 2 ^ 32 → held (k.reading w)
-  pub joins : (a b : R) → held a → held b → held (k.joined a b)
-  pub cuts : (a b : R) → held a → held b → held (k.less a b)
-
--- what the kind makes of words
-abbrev pub on_words : {R : Type 0} → Kind R → WordKind
-on_words k = word_kind k.word k.reading k.joined k.less k.inside k.equal
 
 -- The values of the nodes at one state: a truth node has a truth, a reading node a reading
 pub record Values (R : Type 0) : Type 0 where

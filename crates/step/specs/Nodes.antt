@@ -1,5 +1,6 @@
 -- The word of a node, from the words that it reads. Assumes nothing.
 use Rattle.std.specs.Prelude.{ℕ, ◌+◌, Bool, cond, not, ◌&&◌, ◌||◌, List, ◌==◌, slice_index}
+use Rattle.readings.specs.Kinds.{Kind}
 use Rattle.table.specs.declared.node.Node.{Node}
 use Rattle.table.specs.declared.node.Node.TheVariants.{Truth, Not, And, Or, Implies, Iff, Previously, Once, Always, Since, TruthAt, Within, Same, Constant, Register, Join, Cut, ReadingAt}
 use Rattle.step.specs.Records.{record_start}
@@ -13,13 +14,14 @@ pub record WordKind : Type 0 where
   pub within : ℕ → ℕ → Bool
   pub same : ℕ → ℕ → Bool
 
-abbrev pub word_kind : {R : Type 0} → (R → ℕ) → (ℕ → R) → (R → R → R) → (R → R → R) → (R → R → Bool) → (R → R → Bool) → WordKind
-word_kind word reading joined less inside equal = record {
-  own = λ a. word (reading a);
-  join = λ a b. word (joined (reading a) (reading b));
-  cut = λ a b. word (less (reading a) (reading b));
-  within = λ a b. inside (reading a) (reading b);
-  same = λ a b. equal (reading a) (reading b);
+-- what the kind makes of words
+abbrev pub on_words : {R : Type 0} → Kind R → WordKind
+on_words k = record {
+  own = λ a. k.word (k.reading a);
+  join = λ a b. k.word (k.joined (k.reading a) (k.reading b));
+  cut = λ a b. k.word (k.less (k.reading a) (k.reading b));
+  within = λ a b. k.inside (k.reading a) (k.reading b);
+  same = λ a b. k.equal (k.reading a) (k.reading b);
 }
 
 -- the word of node i in record j of some records

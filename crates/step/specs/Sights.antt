@@ -8,11 +8,11 @@ use Rattle.step.specs.declared.sight.eval.Past.TheVariants.{First, Later}
 
 abbrev pub seen : Sight → nodes.Sight
 seen v = record {
-  switch = v.switch;
-  nodes = v.nodes;
+  switch = v.place.switch;
+  nodes = v.place.records.nodes;
   words = v.words.now;
-  records = v.records.now;
-  registers = v.registers.now;
+  records = v.place.records.words.now;
+  registers = v.place.registers.now;
 }
 
 -- the past of node i

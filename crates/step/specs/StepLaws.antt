@@ -5,7 +5,9 @@ use Rattle.readings.specs.Ports.{has}
 use Rattle.table.specs.Tables.{Table}
 use Rattle.table.specs.declared.fault.Fault.{Fault}
 use Rattle.table.specs.declared.node.Rule.{Rule}
-use Rattle.step.specs.Logic.{Kind, Values, values_of, on_words, none, after, Meaning}
+use Rattle.readings.specs.Kinds.{Kind}
+use Rattle.step.specs.Logic.{Values, values_of, none, after, Meaning}
+use Rattle.step.specs.Nodes.{on_words}
 use Rattle.step.specs.Opening.{open_refusal, opened, start_registers}
 use Rattle.step.specs.Records.{count_of, record_of, registers_of}
 use Rattle.step.specs.Steps.{answer_of, mask, own_words}

@@ -1,16 +1,16 @@
 -- Worked values of steps on numbers. Assumes nothing.
 use Rattle.std.specs.Prelude.{◌≡◌, ℕ, List, [], ◌∷◌, length, replicate}
-use Rattle.readings.specs.Numbers.{number_code, number_word, word_number, sum, difference, at_most, same_number}
+use Rattle.readings.specs.Numbers.{number_code, numbers}
 use Rattle.table.specs.Tables.{Table}
 use Rattle.table.specs.Worked.{worked_table}
 use Rattle.table.specs.declared.node.Node.TheVariants.{Constant, Previously, Register, Same}
-use Rattle.step.specs.Nodes.{WordKind, word_kind}
+use Rattle.step.specs.Nodes.{WordKind, on_words}
 use Rattle.step.specs.Opening.{opened}
 use Rattle.step.specs.StepLaws.{record_words}
 use Rattle.step.specs.Steps.{send, set_register, step_block}
 
 abbrev pub number_words : WordKind
-number_words = word_kind number_word word_number sum difference at_most same_number
+number_words = on_words numbers
 
 -- Register 0, the constant 5, whether they are the same, and whether they were before; register 0 starts as 5.
 abbrev pub four_nodes : Table

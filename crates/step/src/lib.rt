@@ -2,6 +2,8 @@
 #![tactic(auto)]
 
 pub(crate) mod advance;
+mod block;
+pub mod lengths;
 pub mod open;
 mod records;
 pub(crate) mod sight;

@@ -1,20 +1,22 @@
 // The block that a switch starts with.
-ghost use Rattle.std.specs.Prelude.{◌≡◌, ◌+◌, ◌*◌, ◌<◌, ◌≤◌, true, length, replicate, IfNone, OnOk};
+ghost use Rattle.std.specs.Prelude.{◌≡◌, ◌<◌, true, length, replicate, OnOk};
+ghost use Rattle.step.specs.Blocks.{Becomes, node_count, switch_count};
 ghost use Rattle.step.specs.Names.{names_below};
-ghost use Rattle.step.specs.Logic.{kind_of};
-ghost use Rattle.step.specs.Nodes.{word_kind};
-ghost use Rattle.step.specs.StepLaws.{OpeningLaw, record_words, standing_answer};
+ghost use Rattle.step.specs.Nodes.{on_words};
+ghost use Rattle.step.specs.StepLaws.{OpeningLaw, standing_answer};
 ghost use Rattle.step.specs.Opening.{column, columns, first_word, open_answer, open_block, open_refusal, opened, opened_one, start_registers};
-ghost use Rattle.step.specs.Places.{Placed};
-ghost use Rattle.step.specs.Records.{block_length, record_start};
-ghost use Rattle.step.specs.Steps.{Fitting, mask};
-ghost use Rattle.table.specs.Limits.{max_nodes, max_switches, register_count};
+ghost use Rattle.step.specs.Refusing.{refused_by};
+ghost use Rattle.step.specs.Records.{records_length};
+ghost use Rattle.step.specs.Steps.{Fitting};
+ghost use Rattle.table.specs.Limits.{register_count};
 ghost use Rattle.table.specs.Views.{view};
 ghost use Rattle.std.proofs.Math.Seq.{paste};
 
-use crate::records::start;
-use crate::sight::{Past, Sight};
-use crate::words::{Place, broken};
+use crate::block::Block;
+use crate::lengths::block_length;
+use crate::records::Records;
+use crate::sight::{Past, Place, Sight};
+use crate::words::broken;
 use readings::reading::Reading;
 use table::fault::{Fault, Reason};
 use table::limits::REGISTERS;
@@ -27,145 +29,136 @@ fn starts(table: &Checked, switch: usize) -> [u32; 8]
     ensures { result ≡ start_registers (view table.now) switch }
 {
     let mut words = [0; 8];
-    for g in 0..REGISTERS {
-        words[g] = table.starting_word(switch, g).unwrap_or(0);
+    for (g, word) in words.iter_mut().enumerate() {
+        *word = table.starting_word(switch, g).unwrap_or(0);
     }
     words
 }
 
-// The first word of node `i` at a switch, from a block whose lower nodes are worked out.
-fn first_word<'a, K: Reading>(
-    place: Place,
-    block: &'a [u32],
-    registers: &'a [u32],
-    i: usize,
-    node: Node,
-) -> u32
-    requires { (Placed place block.now registers.now) × ((i < place.nodes) × ((place.nodes ≤ max_nodes) × (names_below place.switches i node ≡ true))) }
-    ensures { result ≡ first_word (word_kind K.word K.reading K.joined K.less K.inside K.equal) place.nodes registers.now block.now i place.switch node }
-{
-    let at = start(place.switch, place.nodes + 1, place.switches) + 1;
-    let words = &block[at..at + i];
-    let sight = Sight::new(
-        place.switch,
-        place.switches,
-        place.nodes,
-        words,
-        block,
-        registers,
-    );
-    sight.word::<K>(node, i, Past::First)
-}
-
-// Works out node `i` at one switch.
-fn open_one<K: Reading>(table: &Checked, switch: usize, i: usize, node: Node, block: &mut [u32])
-    requires { (Fitting (view table.now) switch block.old) × ((i < length (view table.now).nodes) × (names_below (view table.now).switches i node ≡ true)) }
-    ensures { block.new ≡ opened_one (word_kind K.word K.reading K.joined K.less K.inside K.equal) (view table.now) node i block.old switch }
-{
-    let place = Place {
-        switch,
-        switches: table.switches(),
-        nodes: table.nodes().len(),
-    };
-    let registers = starts(table, switch);
-    let word = first_word::<K>(place, block, &registers, i, node);
-    let at = start(switch, place.nodes + 1, place.switches);
-    block[at + 1 + i] = word;
-}
-
-// Works out node `i` at every switch.
-fn open_column<K: Reading>(table: &Checked, i: usize, node: Node, block: &mut [u32])
-    requires { (length block.old ≡ block_length (view table.now).switches (length (view table.now).nodes)) × ((i < length (view table.now).nodes) × (names_below (view table.now).switches i node ≡ true)) }
-    ensures { block.new ≡ column (word_kind K.word K.reading K.joined K.less K.inside K.equal) (view table.now) node i block.old (view table.now).switches }
-{
-    for j in 0..table.switches() {
-        open_one::<K>(table, j, i, node, block);
+impl Place<'_> {
+    // The first word of node `i`, from a block whose lower nodes are worked out.
+    fn first_word<K: Reading>(&self, i: usize, node: Node) -> u32
+        requires below { i < self.now.records.nodes }
+        requires named { names_below self.now.records.switches i node ≡ true }
+        ensures { result ≡ first_word (on_words K.kind) self.now.records.nodes self.now.registers.now self.now.records.words.now i self.now.switch node }
+    {
+        let at = self.records.start(self.switch) + 1;
+        let sight = Sight {
+            place: *self,
+            words: &self.records.words[at..at + i],
+        };
+        sight.word::<K>(node, i, Past::First)
     }
 }
 
-// Works out every node, from node 0 upward.
-fn open_nodes<K: Reading>(table: &Checked, block: &mut [u32])
-    requires { length block.old ≡ block_length (view table.now).switches (length (view table.now).nodes) }
-    ensures { block.new ≡ columns (word_kind K.word K.reading K.joined K.less K.inside K.equal) (view table.now) (view table.now).nodes 0 block.old }
-{
-    let nodes = table.nodes();
-    for i in 0..nodes.len() {
-        open_column::<K>(table, i, nodes[i], block);
+impl Block<'_, '_> {
+    // Works out node `i` at switch `j`.
+    fn open_one<K: Reading>(&mut self, j: usize, i: usize, node: Node)
+        requires there { j < switch_count self.old }
+        requires below { i < node_count self.old }
+        requires named { names_below (switch_count self.old) i node ≡ true }
+        ensures { Becomes self.old self.new (opened_one (on_words K.kind) (view self.old.table.now) node i self.old.words.now j) }
+    {
+        let registers = starts(self.table, j);
+        let records = self.records();
+        let at = records.start(j) + 1 + i;
+        let place = Place {
+            switch: j,
+            records,
+            registers: &registers,
+        };
+        let word = place.first_word::<K>(i, node);
+        self.words[at] = word;
+    }
+
+    // Works out node `i` at every switch, by number: the number says which record it is.
+    #[tactic(auto, unfolding(crate::specs::Opening::column))]
+    fn open_column<K: Reading>(&mut self, i: usize, node: Node)
+        requires below { i < node_count self.old }
+        requires named { names_below (switch_count self.old) i node ≡ true }
+        ensures { Becomes self.old self.new (column (on_words K.kind) (view self.old.table.now) node i self.old.words.now (switch_count self.old)) }
+    {
+        for j in 0..self.table.switches() {
+            self.open_one::<K>(j, i, node);
+        }
+    }
+
+    // Works out every node, from node 0 upward.
+    fn open_nodes<K: Reading>(&mut self)
+        ensures { Becomes self.old self.new (columns (on_words K.kind) (view self.old.table.now) (view self.old.table.now).nodes 0 self.old.words.now) }
+    {
+        let table = self.table;
+        for (i, node) in table.nodes().iter().enumerate() {
+            self.open_column::<K>(i, *node);
+        }
+    }
+
+    // Every word 0.
+    fn clear(&mut self)
+        ensures { Becomes self.old self.new (replicate (length self.old.words.now) 0) }
+    {
+        self.words.fill(0);
+    }
+
+    // Writes the own registers.
+    fn put_registers(&mut self, registers: &[u32])
+        requires { length registers.now ≡ register_count }
+        ensures { Becomes self.old self.new (paste self.old.words.now (records_length (switch_count self.old) (node_count self.old)) registers.now register_count) }
+    {
+        let at = self.registers_start();
+        self.words[at..at + REGISTERS].copy_from_slice(registers);
+    }
+
+    // Fills the block with what the switch starts with.
+    fn fill<K: Reading>(&mut self)
+        ensures value { Becomes self.old self.new (opened (on_words K.kind) (view self.old.table.now) self.old.switch) }
+        ensures law { OpeningLaw K.kind (view self.old.table.now) self.old.switch }
+    {
+        self.clear();
+        self.open_nodes::<K>();
+        let own = starts(self.table, self.switch);
+        self.put_registers(&own);
     }
 }
 
-// Every word 0.
-fn clear(block: &mut [u32])
-    ensures { block.new ≡ replicate (length block.old) 0 }
-{
-    block.fill(0);
-}
-
-// Writes the registers, which begin at `at`.
-fn put_registers(block: &mut [u32], at: usize, words: &[u32])
-    requires { (at + register_count ≤ length block.old) × (length words.now ≡ register_count) }
-    ensures { block.new ≡ paste block.old at words.now register_count }
-{
-    block[at..at + REGISTERS].copy_from_slice(words);
-}
-
-// Fills the block with what `switch` starts with.
-fn fill_block<K: Reading>(table: &Checked, switch: usize, block: &mut [u32])
-    requires { Fitting (view table.now) switch block.old }
-    ensures value { block.new ≡ opened (word_kind K.word K.reading K.joined K.less K.inside K.equal) (view table.now) switch }
-    ensures law { OpeningLaw (kind_of K.word K.reading K.joined K.less K.inside K.equal) (view table.now) switch }
-{
-    let at = block.len() - REGISTERS;
-    clear(block);
-    open_nodes::<K>(table, block);
-    let own = starts(table, switch);
-    put_registers(block, at, &own);
-}
-
-// Why the block cannot be opened, if it cannot.
-fn refusal(table: &Checked, switch: usize, block: &[u32]) -> Option<Reason>
-    ensures value { result ≡ open_refusal (view table.now) switch block.now }
-    ensures admitted { IfNone result (Fitting (view table.now) switch block.now) }
+// Admits the block and the switch, or says why they do not fit the table.
+fn admit(table: &Checked, switch: usize, block: &[u32]) -> Result<(), Reason>
+    ensures value { result ≡ refused_by (open_refusal (view table.now) switch block.now) }
+    ensures admitted { OnOk result (Fitting (view table.now) switch block.now) }
 {
     let switches = table.switches();
-    if block.len() != switches * (table.nodes().len() + 1) + REGISTERS {
-        return Some(Reason::Shape);
+    if block.len() != block_length(table) {
+        return Err(Reason::Shape);
     }
     if switch >= switches {
-        return Some(Reason::Switch);
+        return Err(Reason::Switch);
     }
-    None
+    Ok(())
 }
 
-// Fills the block with what `switch` starts with, or refuses and leaves it.
+// Fills the block with what `switch` starts with, or refuses and leaves it. Table, switch and block are the caller's; `Block` is
+// what an admitted call makes of them.
 pub fn open<K: Reading>(table: &Checked, switch: usize, block: &mut [u32]) -> Result<(), Fault>
     ensures answer { result ≡ open_answer (view table.now) switch block.old }
-    ensures block { block.new ≡ open_block (word_kind K.word K.reading K.joined K.less K.inside K.equal) (view table.now) switch block.old }
-    ensures law { OnOk result (OpeningLaw (kind_of K.word K.reading K.joined K.less K.inside K.equal) (view table.now) switch) }
+    ensures block { block.new ≡ open_block (on_words K.kind) (view table.now) switch block.old }
+    ensures law { OnOk result (OpeningLaw K.kind (view table.now) switch) }
 {
-    if let Some(reason) = refusal(table, switch, block) {
-        return Err(Fault { reason, place: 0 });
-    }
-    fill_block::<K>(table, switch, block);
+    admit(table, switch, block)?;
+    let mut own = Block {
+        table,
+        switch,
+        words: block,
+    };
+    own.fill::<K>();
     Ok(())
 }
 
 // The broken mask of the own record in a block, as it stands.
+#[tactic(auto, using(crate::proofs::Ready::rules_ready))]
 pub fn broken_in(table: &Checked, switch: usize, block: &[u32]) -> Result<u32, Fault>
     ensures { result ≡ standing_answer (view table.now) switch block.now }
 {
-    if let Some(reason) = refusal(table, switch, block) {
-        return Err(Fault { reason, place: 0 });
-    }
-    Ok(standing(table, switch, block))
-}
-
-// The same of a block of the table's shape.
-fn standing(table: &Checked, switch: usize, block: &[u32]) -> u32
-    requires { Fitting (view table.now) switch block.now }
-    ensures { result ≡ mask switch (record_words (length (view table.now).nodes) block.now switch) (view table.now).rules }
-{
-    let nodes = table.nodes().len();
-    let at = start(switch, nodes + 1, table.switches()) + 1;
-    broken(table.rules(), switch, &block[at..at + nodes])
+    admit(table, switch, block)?;
+    let words = Records::new(table, block).words_of(switch);
+    Ok(broken(table.rules(), switch, words))
 }

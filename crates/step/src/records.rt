@@ -1,112 +1,80 @@
-// Records and blocks in a slice of words.
-ghost use Rattle.std.specs.Prelude.{◌≡◌, ◌+◌, ◌*◌, ◌^◌, ◌<◌, ◌≤◌, ◌∷◌, length, slice_set};
-ghost use Rattle.step.specs.Records.{block_length, count_of, hand_length, hand_records, newer, put_record, record_of, records_length};
-ghost use Rattle.step.specs.Steps.{own_count, taken, taken_one};
-ghost use Rattle.table.specs.Limits.{max_nodes, register_count};
+// Records in a slice of words.
+ghost use Rattle.std.specs.Prelude.{◌≡◌, ◌+◌, ◌*◌, ◌<◌, ◌≤◌, length};
+ghost use Rattle.step.specs.Nodes.{word_in};
+ghost use Rattle.step.specs.Records.{count_of, record_of, record_start, records_length};
+ghost use Rattle.step.specs.StepLaws.{Words, record_words};
+ghost use Rattle.table.specs.Views.{view};
 
-// Where record `j` of `count` begins.
-pub(crate) fn start(j: usize, width: usize, count: usize) -> usize
-    requires { (j < count) × (count * width < 2 ^ 62) }
-    ensures value { result ≡ j * width }
-    ensures inside { result + width ≤ count * width }
-{
-    j * width
+use table::table::Checked;
+
+// The records of all switches, one after another: each is a count, and then a word for each node. They lie in one slice, since
+// the memory is lent; a switch is a number, for which each method asks, as an index is.
+#[derive(Clone, Copy)]
+pub(crate) struct Records<'a> {
+    pub(crate) switches: usize,
+    pub(crate) nodes: usize,
+    pub(crate) words: &'a [u32],
+    ghost room: { switches * (nodes + 1) ≤ length words.now },
 }
 
-// Record `j` is newer in the copy than in the block.
-fn is_newer(copy: &[u32], block: &[u32], nodes: usize, count: usize, j: usize) -> bool
-    requires { (j < count) × ((count * (nodes + 1) ≤ length block.now) × (count * (nodes + 1) ≤ length copy.now)) }
-    ensures { result ≡ newer (record_of nodes copy.now j) (record_of nodes block.now j) }
-{
-    count_of(copy, nodes, count, j) > count_of(block, nodes, count, j)
-}
-
-// Replaces record `j`.
-pub(crate) fn put_record(block: &mut [u32], nodes: usize, count: usize, j: usize, words: &[u32])
-    requires { (j < count) × ((count * (nodes + 1) ≤ length block.old) × (length words.now ≡ nodes + 1)) }
-    ensures { block.new ≡ put_record nodes block.old j words.now }
-{
-    let width = nodes + 1;
-    let at = start(j, width, count);
-    block[at..at + width].copy_from_slice(words);
-}
-
-// Record `j` of the copy's records in place of the block's.
-fn take_record(block: &mut [u32], copy: &[u32], nodes: usize, count: usize, j: usize)
-    requires { (j < count) × ((count * (nodes + 1) ≤ length block.old) × (count * (nodes + 1) ≤ length copy.now)) }
-    ensures { block.new ≡ put_record nodes block.old j (record_of nodes copy.now j) }
-{
-    let width = nodes + 1;
-    let at = start(j, width, count);
-    put_record(block, nodes, count, j, &copy[at..at + width]);
-}
-
-// The same where the copy's is newer and the record is not the own one.
-fn take_one(block: &mut [u32], copy: &[u32], nodes: usize, count: usize, switch: usize, j: usize)
-    requires { (j < count) × ((count * (nodes + 1) ≤ length block.old) × (count * (nodes + 1) ≤ length copy.now)) }
-    ensures { block.new ≡ taken_one nodes switch copy.now block.old j }
-{
-    if j != switch && is_newer(copy, block, nodes, count, j) {
-        take_record(block, copy, nodes, count, j);
+impl<'a> Records<'a> {
+    // The records of a table's switches, at the front of some words.
+    #[tactic(auto, using(crate::proofs::Laws::slice_words))]
+    pub(crate) fn new(table: &Checked, words: &'a [u32]) -> Records<'a>
+        requires { records_length (view table.now).switches (length (view table.now).nodes) ≤ length words.now }
+        ensures switches { result.switches ≡ (view table.now).switches }
+        ensures nodes { result.nodes ≡ length (view table.now).nodes }
+        ensures words { result.words.now ≡ words.now }
+        ensures small { Words words.now }
+    {
+        Records {
+            switches: table.switches(),
+            nodes: table.nodes().len(),
+            words,
+        }
     }
-}
 
-// The first `count` records, each where the copy's is newer; never the own one.
-pub(crate) fn take_over(block: &mut [u32], copy: &[u32], nodes: usize, count: usize, switch: usize)
-    requires { (count * (nodes + 1) ≤ length block.old) × (count * (nodes + 1) ≤ length copy.now) }
-    ensures { block.new ≡ taken nodes switch copy.now block.old count }
-{
-    for j in 0..count {
-        take_one(block, copy, nodes, count, switch, j);
+    // Where the record of switch `j` begins.
+    pub(crate) fn start(&self, j: usize) -> usize
+        requires { j < self.now.switches }
+        ensures value { result ≡ record_start self.now.nodes j }
+        ensures inside { result + (self.now.nodes + 1) ≤ length self.now.words.now }
+    {
+        j * (self.nodes + 1)
     }
-}
 
-// The own record: its count, and its words.
-pub(crate) fn put_own(
-    block: &mut [u32],
-    nodes: usize,
-    count: usize,
-    switch: usize,
-    stamp: u32,
-    words: &[u32],
-)
-    requires { (switch < count) × ((count * (nodes + 1) ≤ length block.old) × (length words.now ≡ nodes)) }
-    ensures { block.new ≡ put_record nodes block.old switch (stamp ∷ words.now) }
-{
-    let at = start(switch, nodes + 1, count);
-    block[at] = stamp;
-    block[at + 1..at + 1 + nodes].copy_from_slice(words);
-}
+    // The record of switch `j`.
+    pub(crate) fn record(&self, j: usize) -> &'a [u32]
+        requires { j < self.now.switches }
+        ensures { result.now ≡ record_of self.now.nodes self.now.words.now j }
+    {
+        let at = self.start(j);
+        &self.words[at..at + self.nodes + 1]
+    }
 
-// The count of record `j`.
-pub(crate) fn count_of(block: &[u32], nodes: usize, count: usize, j: usize) -> u32
-    requires { (j < count) × (count * (nodes + 1) ≤ length block.now) }
-    ensures { result ≡ count_of (record_of nodes block.now j) }
-{
-    block[start(j, nodes + 1, count)]
-}
+    // Its count.
+    pub(crate) fn count_of(&self, j: usize) -> u32
+        requires { j < self.now.switches }
+        ensures { result ≡ count_of (record_of self.now.nodes self.now.words.now j) }
+    {
+        self.words[self.start(j)]
+    }
 
-// The records of a hand, after its sender, each where it is newer.
-pub(crate) fn take_hand(block: &mut [u32], hand: &[u32], nodes: usize, count: usize, switch: usize)
-    requires { (count * (nodes + 1) ≤ length block.old) × (length hand.now ≡ hand_length count nodes) }
-    ensures value { block.new ≡ taken nodes switch (hand_records hand.now) block.old count }
-    ensures own { own_count nodes switch block.new ≡ own_count nodes switch block.old }
-{
-    take_over(block, &hand[1..hand.len()], nodes, count, switch);
-}
+    // Its words, after the count.
+    pub(crate) fn words_of(&self, j: usize) -> &'a [u32]
+        requires { j < self.now.switches }
+        ensures value { result.now ≡ record_words self.now.nodes self.now.words.now j }
+        ensures every { length result.now ≡ self.now.nodes }
+    {
+        &self.record(j)[1..]
+    }
 
-// Writes a register, after the `count` records.
-pub(crate) fn set_register(
-    block: &mut [u32],
-    nodes: usize,
-    count: usize,
-    switch: usize,
-    register: usize,
-    word: u32,
-)
-    requires { (switch < count) × ((length block.old ≡ block_length count nodes) × ((nodes ≤ max_nodes) × (register < register_count))) }
-    ensures value { block.new ≡ slice_set block.old (records_length count nodes + register) word }
-    ensures own { own_count nodes switch block.new ≡ own_count nodes switch block.old }
-{
-    block[count * (nodes + 1) + register] = word;
+    // Its word of node `i`.
+    pub(crate) fn word(&self, j: usize, i: usize) -> u32
+        requires there { j < self.now.switches }
+        requires below { i < self.now.nodes }
+        ensures { result ≡ word_in self.now.nodes self.now.words.now j i }
+    {
+        self.words[self.start(j) + 1 + i]
+    }
 }

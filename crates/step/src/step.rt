@@ -1,17 +1,18 @@
 // One switch's step.
-ghost use Rattle.std.specs.Prelude.{◌≡◌, ◌+◌, ◌<◌, ◌≤◌, true, length, IfNone, IfOk, Ok, Err};
-ghost use Rattle.step.specs.Logic.{kind_of};
-ghost use Rattle.step.specs.Nodes.{word_kind};
+ghost use Rattle.std.specs.Prelude.{◌≡◌, true, IfOk, OnOk};
+ghost use Rattle.step.specs.Blocks.{Becomes, node_count, switch_count};
+ghost use Rattle.step.specs.Nodes.{on_words};
+ghost use Rattle.step.specs.Refusing.{refused_by};
 ghost use Rattle.step.specs.StepLaws.{StepLaw};
-ghost use Rattle.step.specs.Records.{block_length, hand_length};
+ghost use Rattle.step.specs.Records.{hand_length};
 ghost use Rattle.step.specs.Steps.{Admitted, acted_block, hand_fits, own_count, register_fits, step_answer, step_block, step_refusal};
 ghost use Rattle.step.specs.Events.{act_of};
-ghost use Rattle.table.specs.Limits.{max_nodes};
 ghost use Rattle.table.specs.Views.{view};
-ghost use Rattle.table.specs.Wire.{counted};
 
-use crate::advance::{Outcome, advance};
-use crate::records::{count_of, set_register, take_hand};
+use crate::advance::Outcome;
+use crate::block::Block;
+use crate::lengths::{block_length, hand_length};
+use crate::records::Records;
 use readings::reading::Reading;
 use table::fault::{Fault, Reason};
 use table::limits::REGISTERS;
@@ -48,44 +49,41 @@ fn register_fits(event: Event) -> bool
     }
 }
 
-// Does what the event does before the own words are worked out.
-fn act(table: &Checked, switch: usize, event: Event, block: &mut [u32])
-    requires { Admitted (view table.now) switch (act_of event) block.old }
-    ensures value { block.new ≡ acted_block (view table.now) switch (act_of event.entry) block.old }
-    ensures own { own_count (length (view table.now).nodes) switch block.new ≡ own_count (length (view table.now).nodes) switch block.old }
-{
-    let nodes = table.nodes().len();
-    let switches = table.switches();
-    match event {
-        Event::Set { register, word } => {
-            set_register(block, nodes, switches, switch, register, word)
+impl Block<'_, '_> {
+    // Does what the event does before the own words are worked out.
+    #[tactic(auto, using(crate::proofs::Acting::acted_own))]
+    fn act(&mut self, event: Event)
+        requires hand { hand_fits (hand_length (switch_count self.old) (node_count self.old)) (act_of event) ≡ true }
+        requires register { register_fits (act_of event) ≡ true }
+        ensures value { Becomes self.old self.new (acted_block (view self.old.table.now) self.old.switch (act_of event.entry) self.old.words.now) }
+        ensures own { own_count (node_count self.old) self.old.switch self.new.words.now ≡ own_count (node_count self.old) self.old.switch self.old.words.now }
+    {
+        match event {
+            Event::Set { register, word } => self.set_register(register, word),
+            Event::Send => {}
+            Event::Receive { hand } => self.take_hand(hand),
         }
-        Event::Send => {}
-        Event::Receive { hand } => take_hand(block, hand, nodes, switches, switch),
     }
 }
 
-// Why the step cannot be made, if it cannot.
-fn refusal(table: &Checked, switch: usize, event: Event, block: &[u32]) -> Option<Reason>
-    ensures value { result ≡ step_refusal (view table.now) switch (act_of event.entry) block.now }
-    ensures admitted { IfNone result (Admitted (view table.now) switch (act_of event.entry) block.now) }
+// Admits the step, or says why it cannot be made. Not `open`'s test and then the rest: the hand's length comes before the switch.
+fn admit(table: &Checked, switch: usize, event: Event, block: &[u32]) -> Result<(), Reason>
+    ensures value { result ≡ refused_by (step_refusal (view table.now) switch (act_of event.entry) block.now) }
+    ensures admitted { OnOk result (Admitted (view table.now) switch (act_of event.entry) block.now) }
 {
-    let nodes = table.nodes().len();
-    let switches = table.switches();
-    let width = nodes + 1;
-    if block.len() != switches * width + REGISTERS || !hand_fits(event, switches * width + 1) {
-        return Some(Reason::Shape);
+    if block.len() != block_length(table) || !hand_fits(event, hand_length(table)) {
+        return Err(Reason::Shape);
     }
-    if switch >= switches {
-        return Some(Reason::Switch);
+    if switch >= table.switches() {
+        return Err(Reason::Switch);
     }
     if !register_fits(event) {
-        return Some(Reason::Operand);
+        return Err(Reason::Operand);
     }
-    if count_of(block, nodes, switches, switch) == u32::MAX {
-        return Some(Reason::Count);
+    if Records::new(table, block).count_of(switch) == u32::MAX {
+        return Err(Reason::Count);
     }
-    None
+    Ok(())
 }
 
 // The step at `switch`: the event acts, the own count grows by 1, and the own words are worked out.
@@ -96,13 +94,16 @@ pub fn step<K: Reading>(
     event: Event,
     block: &mut [u32],
 ) -> Result<Outcome, Fault>
-    ensures answer { result ≡ step_answer (word_kind K.word K.reading K.joined K.less K.inside K.equal) (view table.now) switch (act_of event.entry) block.old }
-    ensures block { block.new ≡ step_block (word_kind K.word K.reading K.joined K.less K.inside K.equal) (view table.now) switch (act_of event.entry) block.old }
-    ensures law { IfOk result (λ o. StepLaw (kind_of K.word K.reading K.joined K.less K.inside K.equal) (view table.now) switch (acted_block (view table.now) switch (act_of event.entry) block.old) o.broken) }
+    ensures answer { result ≡ step_answer (on_words K.kind) (view table.now) switch (act_of event.entry) block.old }
+    ensures block { block.new ≡ step_block (on_words K.kind) (view table.now) switch (act_of event.entry) block.old }
+    ensures law { IfOk result (λ o. StepLaw K.kind (view table.now) switch (acted_block (view table.now) switch (act_of event.entry) block.old) o.broken) }
 {
-    if let Some(reason) = refusal(table, switch, event, block) {
-        return Err(Fault { reason, place: 0 });
-    }
-    act(table, switch, event, block);
-    Ok(advance::<K>(table, switch, block))
+    admit(table, switch, event, block)?;
+    let mut own = Block {
+        table,
+        switch,
+        words: block,
+    };
+    own.act(event);
+    Ok(own.advance::<K>())
 }

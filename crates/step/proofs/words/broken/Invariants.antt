@@ -1,6 +1,5 @@
-use Rattle.std.proofs.Common.{◌≡◌, drop}
-use Rattle.step.specs.Steps.{mask}
+use Rattle.step.proofs.Masks.{Done}
 use Rattle.step.proofs.words.broken.Given as goal
 
-abbrev pub invariant-loop-i : goal.invariant-loop-i
-invariant-loop-i l = l.mask ≡ mask l.switch l.words (drop l.i l.rules)
+abbrev pub invariant-loop-rule : goal.invariant-loop-rule
+invariant-loop-rule l = Done l.switch l.words l.rules l.rule-iterator.iter.rest.now l.mask
