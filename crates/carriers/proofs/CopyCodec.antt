@@ -8,7 +8,7 @@ use Rattle.table.proofs.TableCodec.{length_words_at}
 use Rattle.table.proofs.Words.{Stands, stands_none, stands_at, stands_left, stands_right, stands_append, front_stands, word_read, word_small, word_stands, and_then_parts, and_then_from, cond_parts, ok_same, field_parts, field_from}
 use Rattle.table.specs.TableLaws.{Bytes}
 use Rattle.table.specs.Tables.{every, is_word, words_at}
-use Rattle.table.specs.Wire.{and_then, field, word_at, word_bytes}
+use Rattle.table.specs.Wire.{and_then, field, word_at, word_bytes, tested_field}
 use Rattle.table.specs.declared.fault.Reason.TheVariants.{Copy}
 use Rattle.carriers.proofs.CopyWrites.{joined_append, length_copy_bytes, length_hand_in, length_record_of, length_records_fields, length_records_in}
 use Rattle.carriers.proofs.EachRead.{each_from, each_parts}
@@ -120,7 +120,7 @@ hand_back code n m hand bs long e =
 -- Every copy's encoding is accepted
 
 required_from : (ok : ℕ → Bool) (bs : List ℕ) (i w : ℕ) → Stands bs i (word_bytes w) → ok w ≡ true → required ok bs i ≡ Ok w
-unfolding required
+unfolding tested_field
 required_from ok bs i w h e = and_then_from _ _ w w (field_from Copy bs i w h) (cond-true _ _ _ e)
 
 word_there : (bs ws : List ℕ) (at k : ℕ) → Stands bs at (flat_map word_bytes ws) → k < length ws → Stands bs (at + k * 4) (word_bytes (get_or ws k 0))
@@ -157,7 +157,7 @@ copy_accepted code n m hand bs long below e =
 -- What is accepted is the encoding of a copy
 
 required_parts : (ok : ℕ → Bool) (bs : List ℕ) (i w : ℕ) → required ok bs i ≡ Ok w → (i + 4 ≤ length bs) × (word_at bs i ≡ w) × (ok w ≡ true)
-unfolding required
+unfolding tested_field
 required_parts ok bs i w h =
     let p = and_then_parts (field Copy bs i) _ w h in
     let q = cond_parts _ _ _ _ p.2 in

@@ -3,8 +3,7 @@ use Rattle.std.proofs.Common.{◌≡◌, ℕ, zero, suc, ◌+◌, ◌*◌, ◌<�
 use Rattle.std.proofs.lemmas.Bool.{and_parts, leb-true}
 use Rattle.table.specs.Limits.{max_nodes, max_switches}
 use Rattle.table.specs.Delivered.{kind_of}
-use Rattle.table.specs.Tables.{between}
-use Rattle.table.specs.Wire.{and_then, fault, field}
+use Rattle.table.specs.Wire.{and_then, fault, field, tested_field, between}
 use Rattle.table.specs.declared.fault.Fault.{Fault}
 use Rattle.table.specs.declared.fault.Reason.TheVariants.{Copy}
 use Rattle.carriers.proofs.Rows.{row_most, row_room}
@@ -28,7 +27,7 @@ module _ (b : ℕ) where
   below_field bs i h = below_cond _ _ (fault Copy i) h
 
   below_required : (ok : ℕ → Bool) (bs : List ℕ) (i : ℕ) → i ≤ b → Below (required ok bs i)
-  unfolding required
+  unfolding tested_field
   below_required ok bs i h = below_then (field Copy bs i) _ (below_field bs i h) (λ w. below_cond (ok w) w (fault Copy i) h)
 
   below_each : {X : Type 0} (part : ℕ → Result X Fault) (n : ℕ) → ((j : ℕ) → j < n → Below (part j)) → Below (each_read part n)

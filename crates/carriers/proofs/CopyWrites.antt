@@ -1,14 +1,14 @@
 -- Fields written one after another, and words taken one after another. Assumes nothing.
-use Rattle.std.proofs.Common.{◌≡◌, ℕ, zero, suc, ◌+◌, ◌*◌, ◌<◌, ◌≤◌, List, [], ◌∷◌, ◌++◌, length, get_or, take, drop, set, sym, refl, ap, ◌∙◌, suc-mul, arith, length-append, length-drop}
-use Rattle.std.proofs.lemmas.List.{length-take-le, take_all, take_more}
+use Rattle.std.proofs.Common.{◌≡◌, ℕ, zero, suc, ◌+◌, ◌-◌, ◌*◌, ◌<◌, ◌≤◌, List, [], ◌∷◌, ◌++◌, length, get_or, drop, set, sym, refl, ap, ◌∙◌, suc-mul, arith, length-append, length-drop}
+use borrow.Rule.Slice.PartMut.{put_mid}
+use Rattle.std.proofs.lemmas.List.{length-set, length-take-le}
 use Rattle.std.specs.List.{flat_map}
 use Rattle.step.specs.Records.{hand_length, hand_records, record_length, record_of, record_start, records_length}
 use Rattle.table.proofs.Arrays.{length_joined}
 use Rattle.table.proofs.TableCodec.{length_words_at}
-use Rattle.table.proofs.WordRuns.{words_more}
 use Rattle.table.specs.Tables.{words_at}
 use Rattle.table.specs.Wire.{word_at, word_bytes}
-use Rattle.carriers.proofs.Placing.{placed_all, placed_more, placed_none, placed_set, set_placed}
+use Rattle.carriers.proofs.Placing.{length_placed, placed_all, placed_more, placed_none, putMid_placed, set_placed}
 use Rattle.carriers.proofs.Rows.{row_room}
 use Rattle.carriers.specs.Copies.{copy_bytes, copy_length, hand_in, record_fields, record_in, record_offset, record_size, records_fields, records_in}
 use Rattle.carriers.specs.Memory.{placed}
@@ -22,27 +22,17 @@ length_fields ws = length_joined word_bytes 4 (λ w. refl) ws
 
 -- Writing
 
-pub words_turn : (d b b' words : List ℕ) (at i w : ℕ) → i < length words → at + length words * 4 ≤ length d → w ≡ get_or words i 0 → b ≡ placed d at (flat_map word_bytes (take i words)) → b' ≡ placed b (at + i * 4) (word_bytes w) → b' ≡ placed d at (flat_map word_bytes (take (i + 1) words))
-words_turn d b b' words at i w lt room e before after =
-    let long : length (flat_map word_bytes (take i words)) ≡ i * 4 = length_fields (take i words) ∙ ap (λ k. k * 4) (length-take-le i words (omega arith)) in
-    after
-    ∙ ap (λ x. placed x (at + i * 4) (word_bytes w)) before
-    ∙ placed_more d at (at + i * 4) (flat_map word_bytes (take i words)) (word_bytes w) (omega arith) (omega arith)
-    ∙ ap (placed d at) (ap (λ x. flat_map word_bytes (take i words) ++ word_bytes x) e ∙ sym (joined_append (take i words) (get_or words i 0 ∷ [])) ∙ ap (flat_map word_bytes) (sym (take_more words i 0 lt)))
-
-pub words_end : (d b words : List ℕ) (at i : ℕ) → length words ≤ i → b ≡ placed d at (flat_map word_bytes (take i words)) → b ≡ placed d at (flat_map word_bytes words)
-words_end d b words at i all before = before ∙ ap (λ ws. placed d at (flat_map word_bytes ws)) (take_all i words all)
-
 -- a record's fields
-pub record_written : (d b₁ b₂ b₃ r rest : List ℕ) (at m x : ℕ) → length r ≡ m + 1 → at + record_size m ≤ length d → x ≡ get_or r 0 0 → rest ≡ drop 1 r → b₁ ≡ placed d at (word_bytes x) → b₂ ≡ placed b₁ (at + 4) (word_bytes m) → b₃ ≡ placed b₂ (at + 8) (flat_map word_bytes rest) → b₃ ≡ placed d at (flat_map word_bytes (record_fields m r))
-record_written d b₁ b₂ b₃ r rest at m x long room first others e₁ e₂ e₃ =
-    let tail : length (flat_map word_bytes (drop 1 r)) ≡ m * 4 = length_fields (drop 1 r) ∙ ap (λ k. k * 4) (length-drop 1 r ∙ omega arith) in
-    let two : b₂ ≡ placed d at (word_bytes x ++ word_bytes m) =
-    e₂ ∙ ap (λ b. placed b (at + 4) (word_bytes m)) e₁ ∙ placed_more d at (at + 4) (word_bytes x) (word_bytes m) refl (omega arith) in
-    e₃
-    ∙ (λ i. placed (two i) (at + 8) (flat_map word_bytes (others i)))
-    ∙ placed_more d at (at + 8) (word_bytes x ++ word_bytes m) (flat_map word_bytes (drop 1 r)) refl (omega arith)
-    ∙ ap (λ y. placed d at (word_bytes y ++ (word_bytes m ++ flat_map word_bytes (drop 1 r)))) first
+pub record_written : (d b₁ b₂ r rest dst : List ℕ) (m x : ℕ) → length r ≡ m + 1 → length d ≡ record_size m → x ≡ get_or r 0 0 → rest ≡ drop 1 r → b₁ ≡ placed d 0 (word_bytes x) → b₂ ≡ placed b₁ 4 (word_bytes m) → dst ≡ flat_map word_bytes rest → put_mid 8 (length b₂ - 8) b₂ dst ≡ flat_map word_bytes (record_fields m r)
+record_written d b₁ b₂ r rest dst m x long size first others e₁ e₂ e₃ =
+    let tail : length dst ≡ m * 4 = ap length e₃ ∙ length_fields rest ∙ ap (λ ws. length ws * 4) others ∙ ap (λ k. k * 4) (length-drop 1 r ∙ omega arith) in
+    let two : b₂ ≡ placed d 0 (word_bytes x ++ word_bytes m) = e₂ ∙ ap (λ b. placed b 4 (word_bytes m)) e₁ ∙ placed_more d 0 4 (word_bytes x) (word_bytes m) refl (omega arith) in
+    let same : length b₂ ≡ length d = ap length two ∙ length_placed d 0 (word_bytes x ++ word_bytes m) (omega arith) in
+    putMid_placed 8 (length b₂ - 8) b₂ dst (omega arith)
+    ∙ ap (λ b. placed b 8 dst) two
+    ∙ placed_more d 0 8 (word_bytes x ++ word_bytes m) dst refl (omega arith)
+    ∙ placed_all d ((word_bytes x ++ word_bytes m) ++ dst) (omega arith)
+    ∙ (λ i. word_bytes (first i) ++ (word_bytes m ++ (e₃ ∙ ap (flat_map word_bytes) others) i))
 
 pub length_record_of : (m n j : ℕ) (rs : List ℕ) → length rs ≡ records_length n m → j < n → length (record_of m rs j) ≡ record_length m
 length_record_of m n j rs long lt =
@@ -100,23 +90,14 @@ copy_written d b₁ b₂ b₃ b₄ hand records code n m s long size first rest 
 
 -- Filling
 
-pub taken_turn : (d h h' bs : List ℕ) (at to i count x : ℕ) → i < count → to + count ≤ length d → x ≡ word_at bs (at + i * 4) → h ≡ placed d to (words_at bs at i) → h' ≡ set h (to + i) x → h' ≡ placed d to (words_at bs at (i + 1))
-taken_turn d h h' bs at to i count x lt room e before after =
-    after
-    ∙ (λ k. set (before k) (to + i) (e k))
-    ∙ placed_set d to (to + i) (words_at bs at i) (word_at bs (at + i * 4)) (omega (arith, length_words_at bs at i)) (omega arith)
-    ∙ ap (placed d to) (sym (words_more bs at i))
-
-pub taken_none : (d bs : List ℕ) (at to : ℕ) → d ≡ placed d to (words_at bs at 0)
-unfolding words_at
-taken_none d bs at to = sym (placed_none d to)
-
-pub taken_record : (d h₁ h₂ bs : List ℕ) (at to m x : ℕ) → to + record_length m ≤ length d → x ≡ word_at bs at → h₁ ≡ set d to x → h₂ ≡ placed h₁ (to + 1) (words_at bs (at + 8) m) → h₂ ≡ placed d to (record_in m bs at)
-taken_record d h₁ h₂ bs at to m x room e e₁ e₂ =
-    e₂
-    ∙ ap (λ h. placed h (to + 1) (words_at bs (at + 8) m)) (e₁ ∙ set_placed d to x (omega arith))
-    ∙ placed_more d to (to + 1) (x ∷ []) (words_at bs (at + 8) m) refl (omega (arith, length_words_at bs (at + 8) m))
-    ∙ ap (λ y. placed d to (y ∷ words_at bs (at + 8) m)) e
+pub record_taken : (d dst bs : List ℕ) (m x : ℕ) → length d ≡ m + 1 → x ≡ word_at bs 0 → dst ≡ words_at bs 8 m → put_mid 1 (length (set d 0 x) - 1) (set d 0 x) dst ≡ record_in m bs 0
+record_taken d dst bs m x long e is =
+    let tail : length dst ≡ m = ap length is ∙ length_words_at bs 8 m in
+    putMid_placed 1 (length (set d 0 x) - 1) (set d 0 x) dst (omega (arith, length-set d 0 x))
+    ∙ ap (λ b. placed b 1 dst) (set_placed d 0 x (omega arith))
+    ∙ placed_more d 0 1 (x ∷ []) dst refl (omega arith)
+    ∙ placed_all d (x ∷ dst) (omega arith)
+    ∙ (λ i. e i ∷ is i)
 
 pub length_records_in : (m : ℕ) (bs : List ℕ) (j : ℕ) → length (records_in m bs j) ≡ records_length j m
 unfolding records_in

@@ -1,7 +1,8 @@
 -- The copies held in places, under a put, a fetch and a retire. Assumes nothing.
-use Rattle.std.proofs.Common.{◌≡◌, ℕ, zero, suc, ◌+◌, ◌-◌, ◌<◌, ◌≤◌, Bool, true, false, cond, eqb, ltb, List, [], ◌∷◌, ◌++◌, length, Some, None, Option, sym, refl, ap, ◌∙◌, inl, inr, arith}
+use Rattle.std.proofs.Common.{◌≡◌, ℕ, zero, suc, ◌+◌, ◌-◌, ◌<◌, ◌≤◌, Bool, true, false, cond, eqb, ltb, List, [], ◌∷◌, ◌++◌, length, Some, None, Option, not, sym, refl, ap, ◌∙◌, inl, inr, arith, length-append}
 use Rattle.std.proofs.lemmas.Bool.{cases_Bool, cases_eq, cases_lt, cond-true, cond-false, eq-eqb, ne_eqb, eqb-true, eqb-false, ltb-true, ltb-false, lt-ltb, le-ltb}
-use Rattle.std.specs.List.{AllByRecursion}
+use Rattle.std.specs.List.{AllByRecursion, filter, range_with_len}
+use Rattle.std.specs.Option.{MatchOption}
 use Rattle.carriers.specs.Meanings.{Held, copy_under, copies_but}
 use Rattle.carriers.specs.Stores.{Others}
 use Rattle.carriers.specs.Places.{inserted_by_number, with_place, held_below, used_below, or_this, lowest_below, Numbered, Distinct}
@@ -130,21 +131,25 @@ lowest_none flag w (suc k) h j lt s = go (lowest_none flag w k) (lowest_below fl
       | inr i ↦ before e j (omega arith) s
     ]
 
--- one place more that has not the flag
-pub lowest_more : (flag : ℕ → ℕ) (w k : ℕ) → lowest_below flag w k ≡ None → (flag k ≡ w → ⊥) → lowest_below flag w (k + 1) ≡ None
+-- no place has it
+lowest_absent : (flag : ℕ → ℕ) (w k : ℕ) → ((j : ℕ) → j < k → flag j ≡ w → ⊥) → lowest_below flag w k ≡ None
 unfolding lowest_below
-lowest_more flag w k e ne =
-    let s : k + 1 ≡ suc k = omega arith in
-    ap (lowest_below flag w) s ∙ ap (λ o. or_this o (eqb (flag k) w) k) e ∙ cond-false _ _ _ (ne_eqb (flag k) w ne)
+lowest_absent flag w zero all = refl
+lowest_absent flag w (suc k) all = ap (λ o. or_this o (eqb (flag k) w) k) (lowest_absent flag w k (λ j lt. all j (omega arith))) ∙ cond-false _ _ _ (ne_eqb (flag k) w (all k (omega arith)))
 
 -- the first that has it is the lowest, whatever follows
-pub lowest_found : (flag : ℕ → ℕ) (w k c : ℕ) → lowest_below flag w k ≡ None → flag k ≡ w → k < c → lowest_below flag w c ≡ Some k
+lowest_found : (flag : ℕ → ℕ) (w k c : ℕ) → lowest_below flag w k ≡ None → flag k ≡ w → k < c → lowest_below flag w c ≡ Some k
 unfolding lowest_below
 lowest_found flag w k zero e f lt = let z : ⊥ = omega arith in elim z [ ]
 lowest_found flag w k (suc c) e f lt = elim (cases_eq k c) [
   | inl i ↦ ap (λ o. or_this o (eqb (flag c) w) c) (ap (lowest_below flag w) (sym i) ∙ e) ∙ cond-true _ _ _ (eq-eqb (flag c) w (ap flag (sym i) ∙ f)) ∙ ap Some (sym i)
   | inr i ↦ ap (λ o. or_this o (eqb (flag c) w) c) (lowest_found flag w k c e f (omega arith))
 ]
+
+-- what a search from the first place on finds
+pub lowest_first : (flag : ℕ → ℕ) (w k : ℕ) (r : Option ℕ) → MatchOption r ((j : ℕ) → 0 ≤ j → j < k → flag j ≡ w → ⊥) (λ i. (0 ≤ i) × (i < k) × (flag i ≡ w) × ((j : ℕ) → 0 ≤ j → j < i → flag j ≡ w → ⊥)) → r ≡ lowest_below flag w k
+lowest_first flag w k None all = sym (lowest_absent flag w k (λ j lt. all j (omega arith) lt))
+lowest_first flag w k (Some i) h = sym (lowest_found flag w i k (lowest_absent flag w i (λ j lt. h.3 j (omega arith) lt)) h.2 h.1)
 
 -- All places
 
@@ -180,13 +185,24 @@ used_free flag (suc k) p lt f = elim (cases_Bool (eqb (flag k) 0)) [
   ])
 ]
 
-pub used_more : (flag : ℕ → ℕ) (k : ℕ) → (flag k ≡ 0 → ⊥) → used_below flag (k + 1) ≡ used_below flag k + 1
-unfolding used_below
-used_more flag k ne = let s : k + 1 ≡ suc k = omega arith in ap (used_below flag) s ∙ cond-false _ _ _ (ne_eqb (flag k) 0 ne)
+-- the places that a filter passes
+filter_more : (test : ℕ → Bool) (a n j : ℕ) → a + n ≡ j → filter test (range_with_len a (suc n)) ≡ filter test (range_with_len a n) ++ cond (test j) (j ∷ []) []
+filter_more test a zero j e = let same : a ≡ j = omega arith in ap (λ i. cond (test i) (i ∷ []) []) same
+filter_more test a (suc n) j e =
+    let rest = filter_more test (a + 1) n j (omega arith) in
+    elim (cases_Bool (test a)) [ inl t ↦ rw t (ap (λ r. a ∷ r) rest) | inr f ↦ rw f rest ]
 
-pub used_same : (flag : ℕ → ℕ) (k : ℕ) → flag k ≡ 0 → used_below flag (k + 1) ≡ used_below flag k
+pub used_count : (flag : ℕ → ℕ) (k : ℕ) → length (filter (λ j. not (eqb (flag j) 0)) (range_with_len 0 k)) ≡ used_below flag k
 unfolding used_below
-used_same flag k f = let s : k + 1 ≡ suc k = omega arith in ap (used_below flag) s ∙ cond-true _ _ _ (eq-eqb (flag k) 0 f)
+used_count flag zero = refl
+used_count flag (suc k) =
+    let test : ℕ → Bool = λ j. not (eqb (flag j) 0) in
+    ap length (filter_more test 0 k k (omega arith))
+    ∙ length-append (filter test (range_with_len 0 k)) (cond (test k) (k ∷ []) [])
+    ∙ elim (cases_Bool (eqb (flag k) 0)) [
+      | inl e ↦ rw e (omega (arith, used_count flag k))
+      | inr e ↦ rw e (omega (arith, used_count flag k))
+    ]
 
 held_ordered : (flag : ℕ → ℕ) (copy : ℕ → List ℕ) (k : ℕ) → Ordered (held_below flag copy k)
 unfolding held_below Ordered
@@ -370,8 +386,4 @@ module _ (flag : ℕ → ℕ) (copy : ℕ → List ℕ) (x : ℕ) where
 
 -- a number that was not given out has no place
 pub lowest_unused : (flag : ℕ → ℕ) (x next k : ℕ) → Numbered flag k next → next ≤ x → lowest_below flag (x + 1) k ≡ None
-unfolding lowest_below
-lowest_unused flag x next zero numbered le = refl
-lowest_unused flag x next (suc k) numbered le =
-    let ne : flag k ≡ x + 1 → ⊥ = λ e. omega (arith, numbered k (omega arith)) in
-    ap (λ o. or_this o (eqb (flag k) (x + 1)) k) (lowest_unused flag x next k (λ j lt. numbered j (omega arith)) le) ∙ cond-false _ _ _ (ne_eqb (flag k) (x + 1) ne)
+lowest_unused flag x next k numbered le = lowest_absent flag (x + 1) k (λ j lt e. omega (arith, numbered j lt))

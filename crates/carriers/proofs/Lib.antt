@@ -2,11 +2,12 @@ pub mod CopyCodec
 pub mod CopyPlaces
 pub mod CopyWrites
 pub mod EachRead
-pub mod FrameStores
+pub mod Fields
+pub mod FramePlaces
 pub mod HeldPlaces
 pub mod Opening
 pub mod Placing
 pub mod PoolSteps
 pub mod Regions
 pub mod Rows
-pub mod WordStores
+pub mod Stores

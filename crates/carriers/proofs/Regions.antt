@@ -1,71 +1,49 @@
--- Memory that is written in one region and kept elsewhere. Assumes nothing.
-use Rattle.std.proofs.Common.{◌≡◌, ℕ, ◌+◌, ◌*◌, ◌<◌, ◌≤◌, List, length, get_or, take, drop, sym, ap, ◌∙◌, inl, inr, arith, length-drop}
-use Rattle.std.proofs.lemmas.List.{ext_get_or, get_or-drop, get_or-take, length-take-le}
+-- Memory that is written in one part of a row and kept in the others. Assumes nothing.
+use Rattle.std.proofs.Common.{◌≡◌, ℕ, ◌+◌, ◌-◌, ◌*◌, ◌<◌, ◌≤◌, List, ◌++◌, length, take, drop, sym, ap, ◌∙◌, inl, inr, append_assoc, arith, length-append, length-drop}
+use Rattle.std.proofs.lemmas.List.{drop-append-le, drop-drop, drop-take, drop_at, length-take-le, take-append-le, take-take, take_at}
 use Rattle.std.proofs.lemmas.Bool.{cases_lt}
-use Rattle.carriers.specs.Memory.{placed}
-use Rattle.carriers.proofs.Placing.{getD_placed_after, getD_placed_below, getD_placed_in, length_placed}
+use Rattle.carriers.specs.Memory.{part, placed}
 use Rattle.carriers.proofs.Rows.{row_room}
 
--- y is x but for what lies from low to high
-pub record Elsewhere (x y : List ℕ) (low high : ℕ) : Type 0 where
-  pub size : length y ≡ length x
-  pub below : (j : ℕ) → j < low → get_or y j 0 ≡ get_or x j 0
-  pub above : (j : ℕ) → high ≤ j → get_or y j 0 ≡ get_or x j 0
+-- part p of c parts of width w is written over
+module _ {X : Type 0} (x ys : List X) (c p w : ℕ) (wide : length ys ≡ w) (room : c * w ≤ length x) (within : p < c) where
+  front : length (take (p * w) x) ≡ p * w
+  front = length-take-le (p * w) x (let r = row_room p c w within in omega arith)
 
-pub elsewhere_placed : (x : List ℕ) (at : ℕ) (xs : List ℕ) (low high : ℕ) → at + length xs ≤ length x → low ≤ at → at + length xs ≤ high → Elsewhere x (placed x at xs) low high
-elsewhere_placed x at xs low high room l h = record {
-  size = length_placed x at xs room;
-  below = λ j lt. getD_placed_below x at xs j room (omega arith);
-  above = λ j le. getD_placed_after x at xs j room (omega arith);
-}
+  pub part_written : part w (placed x (p * w) ys) p ≡ ys
+  unfolding placed
+  part_written = ap (take w) (drop_at (take (p * w) x) _ (p * w) front) ∙ take_at ys _ w wide
 
--- a part of what is written
-pub part_placed : (d : List ℕ) (at : ℕ) (xs : List ℕ) (off w : ℕ) → at + length xs ≤ length d → off + w ≤ length xs → take w (drop (at + off) (placed d at xs)) ≡ take w (drop off xs)
-part_placed d at xs off w room fits =
-    let size = length_placed d at xs room in
-    let left : length (take w (drop (at + off) (placed d at xs))) ≡ w = length-take-le w _ (omega (arith, length-drop (at + off) (placed d at xs))) in
-    let right : length (take w (drop off xs)) ≡ w = length-take-le w _ (omega (arith, length-drop off xs)) in
-    ext_get_or 0 _ _ (left ∙ sym right) (λ k lt. (
-    let here : k < w = omega arith in
-    get_or-take w (drop (at + off) (placed d at xs)) k 0 here
-    ∙ get_or-drop (at + off) (placed d at xs) k 0
-    ∙ ap (λ i. get_or (placed d at xs) i 0) (plus at off k)
-    ∙ getD_placed_in d at xs (off + k) room (omega arith)
-    ∙ sym (get_or-drop off xs k 0)
-    ∙ sym (get_or-take w (drop off xs) k 0 here)))
-  where
-    plus : (a b c : ℕ) → a + b + c ≡ a + (b + c)
-    plus a b c = omega arith
+  pub part_before : (k : ℕ) → k < p → part w (placed x (p * w) ys) k ≡ part w x k
+  unfolding placed
+  part_before k lt =
+      let r : k * w + w ≤ p * w = row_room k p w lt in
+      let gap : p * w ≡ k * w + (p * w - k * w) = omega arith in
+      let cut : drop (k * w) (take (p * w) x) ≡ take (p * w - k * w) (drop (k * w) x) =
+      ap (λ n. drop (k * w) (take n x)) gap ∙ drop-take (k * w) (p * w - k * w) x in
+      let long : w ≤ length (drop (k * w) (take (p * w) x)) = omega (arith, front, length-drop (k * w) (take (p * w) x)) in
+      ap (take w) (drop-append-le (k * w) (take (p * w) x) _ (omega (arith, front)))
+      ∙ take-append-le w (drop (k * w) (take (p * w) x)) _ long
+      ∙ ap (take w) cut
+      ∙ take-take w (p * w - k * w) (drop (k * w) x) (omega arith)
 
--- the region is part p of a row of parts of width w, and k is another part
-module _ (x y : List ℕ) (c p w : ℕ) (room : c * w ≤ length x) (kept : Elsewhere x y (p * w) (p * w + w)) where
-  pub getD_other : (k off : ℕ) → (k ≡ p → ⊥) → off < w → get_or y (k * w + off) 0 ≡ get_or x (k * w + off) 0
-  getD_other k off ne lt = elim (cases_lt k p) [
-    | inl l ↦ let r = row_room k p w l in kept.below (k * w + off) (omega arith)
-    | inr l ↦ let r = row_room p k w (above l) in kept.above (k * w + off) (omega arith)
-  ]
+  pub part_after : (k : ℕ) → p < k → part w (placed x (p * w) ys) k ≡ part w x k
+  unfolding placed
+  part_after k lt =
+      let r : p * w + w ≤ k * w = row_room p k w lt in
+      let past = p * w + length ys in
+      let head : length (take (p * w) x ++ ys) ≡ past = length-append (take (p * w) x) ys ∙ omega (arith, front) in
+      let gap : k * w ≡ past + (k * w - past) = omega arith in
+      ap (take w)
+      (ap (drop (k * w)) (sym (append_assoc (take (p * w) x) ys (drop past x)))
+      ∙ ap (λ n. drop n ((take (p * w) x ++ ys) ++ drop past x)) gap
+      ∙ sym (drop-drop (k * w - past) past ((take (p * w) x ++ ys) ++ drop past x))
+      ∙ ap (drop (k * w - past)) (drop_at (take (p * w) x ++ ys) (drop past x) past head)
+      ∙ drop-drop (k * w - past) past x
+      ∙ ap (λ n. drop n x) (sym gap))
+
+  pub part_kept : (k : ℕ) → (k ≡ p → ⊥) → part w (placed x (p * w) ys) k ≡ part w x k
+  part_kept k ne = elim (cases_lt k p) [ inl lt ↦ part_before k lt | inr le ↦ part_after k (above le ne) ]
     where
-      above : p ≤ k → p < k
-      above le = apart le (λ e. ne (sym e))
-        where
-          apart : p ≤ k → (p ≡ k → ⊥) → p < k
-          apart l d = omega arith
-
-  pub part_other : (k off n : ℕ) → k < c → (k ≡ p → ⊥) → off + n ≤ w → take n (drop (k * w + off) y) ≡ take n (drop (k * w + off) x)
-  part_other k off n in_range ne fits =
-      let r = row_room k c w in_range in
-      let size = kept.size in
-      let left : length (take n (drop (k * w + off) y)) ≡ n = length-take-le n _ (omega (arith, length-drop (k * w + off) y)) in
-      let right : length (take n (drop (k * w + off) x)) ≡ n = length-take-le n _ (omega (arith, length-drop (k * w + off) x)) in
-      ext_get_or 0 _ _ (left ∙ sym right) (λ i lt. (
-      let here : i < n = omega arith in
-      get_or-take n (drop (k * w + off) y) i 0 here
-      ∙ get_or-drop (k * w + off) y i 0
-      ∙ ap (λ j. get_or y j 0) (plus (k * w) off i)
-      ∙ getD_other k (off + i) ne (omega arith)
-      ∙ ap (λ j. get_or x j 0) (sym (plus (k * w) off i))
-      ∙ sym (get_or-drop (k * w + off) x i 0)
-      ∙ sym (get_or-take n (drop (k * w + off) x) i 0 here)))
-    where
-      plus : (a b d : ℕ) → a + b + d ≡ a + (b + d)
-      plus a b d = omega arith
+      above : p ≤ k → (k ≡ p → ⊥) → p < k
+      above le ne = omega (arith, λ (e : p ≡ k). ne (sym e))

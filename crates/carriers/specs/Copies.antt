@@ -3,7 +3,7 @@ use Rattle.std.specs.Prelude.{ℕ, zero, suc, ◌+◌, ◌*◌, Bool, cond, ◌&
 use Rattle.std.specs.List.{flat_map}
 use Rattle.step.specs.Records.{hand_length, hand_records, record_of}
 use Rattle.table.specs.Tables.{every, is_word, words_at}
-use Rattle.table.specs.Wire.{and_then, field, refuse, word_at, word_bytes}
+use Rattle.table.specs.Wire.{and_then, field, refuse, tested_field, word_at, word_bytes}
 use Rattle.table.specs.declared.fault.Fault.{Fault}
 use Rattle.table.specs.declared.fault.Reason.TheVariants.{Copy}
 
@@ -57,8 +57,8 @@ hand_in n m bs = word_at bs 4 ∷ records_in m bs n
 -- Reading the bytes, field by field
 
 -- a field whose value has to pass a test
-unfoldable pub required : (ℕ → Bool) → List ℕ → ℕ → Result ℕ Fault
-required ok bs i = and_then (field Copy bs i) (λ w. cond (ok w) (Ok w) (refuse Copy i))
+abbrev pub required : (ℕ → Bool) → List ℕ → ℕ → Result ℕ Fault
+required = tested_field Copy Copy
 
 -- the first k of a row of parts, each read once those before it are
 unfoldable pub each_read : {X : Type 0} → (ℕ → Result X Fault) → ℕ → Result (Unit {0}) Fault

@@ -3,8 +3,7 @@ use Rattle.std.specs.Prelude.{ℕ, Bool, cond, ◌&&◌, List, length, is_some, 
 use Rattle.step.specs.Records.{hand_length}
 use Rattle.table.specs.Delivered.{kind_of}
 use Rattle.table.specs.Limits.{max_nodes, max_switches}
-use Rattle.table.specs.Tables.{between}
-use Rattle.table.specs.Wire.{refuse}
+use Rattle.table.specs.Wire.{refuse, between}
 use Rattle.table.specs.declared.fault.Fault.{Fault}
 use Rattle.table.specs.declared.fault.Reason.TheVariants.{Shape, TableField}
 use Rattle.carriers.specs.Copies.{copy_length, copy_read}

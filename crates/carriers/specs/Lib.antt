@@ -2,6 +2,7 @@ pub mod Copies
 pub mod CopyCalls
 pub mod CopyLaws
 pub mod Figures
+pub mod FrameLaws
 pub mod FramePlaces
 pub mod Meanings
 pub mod Memory
@@ -9,4 +10,5 @@ pub mod Places
 pub mod Pools
 pub mod Runs
 pub mod Stores
+pub mod WordLaws
 pub mod WordPlaces

@@ -1,16 +1,15 @@
 -- What a pool means, by its shape and its places. Assumes nothing.
-use Rattle.std.specs.Prelude.{ℕ, List, []}
+use Rattle.std.specs.Prelude.{ℕ, ◌/◌, Bool, cond, List, []}
 use Rattle.carriers.specs.Meanings.{Meaning}
-use Rattle.carriers.specs.Places.{Distinct, Numbered, pool_meaning}
-use Rattle.carriers.specs.declared.places.Shape.{Shape}
+use Rattle.carriers.specs.Places.{pool_meaning}
+use Rattle.carriers.specs.declared.shape.Shape.{Shape}
 
 abbrev pub meaning_of : Shape → ℕ → (ℕ → ℕ) → (ℕ → List ℕ) → Meaning
 meaning_of s next flag copy = pool_meaning s.code s.switches s.nodes s.capacity next flag copy
 
--- what a pool keeps true of its flags
-pub record Kept (s : Shape) (next : ℕ) (flag : ℕ → ℕ) : Type 0 where
-  pub numbered : Numbered flag s.capacity next
-  pub distinct : Distinct flag s.capacity
+-- how many places of this width a memory of this size has, where it has any
+abbrev pub places_in : Bool → ℕ → ℕ → ℕ
+places_in any width size = cond any (size / width) 0
 
 -- a new carrier
 abbrev pub opened : ℕ → ℕ → ℕ → ℕ → Meaning

@@ -1,8 +1,9 @@
 -- Places of words: the flag, and then the hand. Assumes nothing.
-use Rattle.std.specs.Prelude.{ℕ, ◌+◌, ◌*◌, ◌/◌, ◌≤◌, cond, List, length, take, drop, slice_index}
+use Rattle.std.specs.Prelude.{ℕ, ◌+◌, ◌*◌, List, take, drop, slice_index}
 use Rattle.step.specs.Records.{hand_length}
 use Rattle.carriers.specs.CopyCalls.{in_range}
-use Rattle.carriers.specs.declared.places.Shape.{Shape}
+use Rattle.carriers.specs.Pools.{places_in}
+use Rattle.carriers.specs.declared.shape.Shape.{Shape}
 
 abbrev pub word_place : ℕ → ℕ → ℕ
 word_place n m = 1 + hand_length n m
@@ -13,9 +14,10 @@ word_flag s memory k = slice_index memory (k * word_place s.switches s.nodes)
 unfoldable pub word_copy : Shape → List ℕ → ℕ → List ℕ
 word_copy s memory k = take (hand_length s.switches s.nodes) (drop (k * word_place s.switches s.nodes + 1) memory)
 
-abbrev pub words_fit : Shape → List ℕ → Type 0
-words_fit s memory = s.capacity * word_place s.switches s.nodes ≤ length memory
+-- the copy in what one place holds
+abbrev pub word_copied : ℕ → ℕ → List ℕ → List ℕ
+word_copied n m place = drop 1 place
 
 -- how many places a memory of this size has
 abbrev pub word_capacity : ℕ → ℕ → ℕ → ℕ
-word_capacity n m size = cond (in_range n m) (size / word_place n m) 0
+word_capacity n m size = places_in (in_range n m) (word_place n m) size

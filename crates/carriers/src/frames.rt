@@ -1,71 +1,61 @@
 // Places of bytes: the flag as a field, and then the copy.
-ghost use Rattle.std.specs.Prelude.{◌≡◌, ◌+◌, ◌*◌, ◌<◌, ◌≤◌, length};
-ghost use Rattle.carriers.specs.FramePlaces.{frame_copy, frame_flag, frame_place, frames_fit};
+ghost use Rattle.std.specs.Prelude.{◌+◌};
+ghost use Rattle.carriers.specs.FramePlaces.{frame_copied, frame_copy, frame_flag, frame_place};
+ghost use Rattle.carriers.specs.FrameLaws.{frame_copy_there, frame_flag_there, frame_least, frame_some, frame_zeros};
+ghost use Rattle.table.specs.Wire.{word_at};
 
-use crate::copy::copy_length;
-use crate::copy::filling::{fill_hand, word};
-use crate::copy::writing::{put_word, write_hand};
-use crate::places::{Places, Shape};
+use crate::copy::writing::put_word;
+use crate::format::Format;
+use crate::places::Places;
+use byteorder::{BigEndian, ByteOrder};
 
-#[derive(Drop)]
-pub(crate) struct Frames<'a> {
-    pub(crate) memory: &'a mut [u8],
-    pub(crate) shape: Shape,
-}
+impl Places for u8 {
+    ghost zero = { 0 };
 
-impl<'a> Places for Frames<'a> {
-    ghost outline = { λ s. s.shape };
+    ghost width = { frame_place };
 
-    ghost flags = { λ s. frame_flag s.shape s.memory.now };
+    ghost flag = { λ place. word_at place 0 };
 
-    ghost copies = { λ s. frame_copy s.shape s.memory.now };
+    ghost copy = { frame_copied };
 
-    ghost fitting = { λ s. frames_fit s.shape s.memory.now };
+    ghost flags = { frame_flag };
 
-    fn shape(&self) -> Shape {
-        self.shape
+    ghost copies = { frame_copy };
+
+    ghost some = { frame_some };
+
+    ghost least = { frame_least };
+
+    ghost zeros = { frame_zeros };
+
+    ghost flag_there = { frame_flag_there };
+
+    ghost copy_there = { frame_copy_there };
+
+    fn clear(memory: &mut [u8]) {
+        memory.fill(0);
     }
 
-    fn flag(&self, place: usize) -> u32 {
-        word(&*self.memory, self.start(place))
+    fn width(format: Format) -> usize {
+        4 + format.copy_length()
     }
 
-    fn store(&mut self, place: usize, flag: u32, hand: &[u32]) {
-        let at = self.start(place);
-        let count = self.shape.switches as usize;
-        let nodes = self.shape.nodes as usize;
-        let size = copy_length(count, nodes);
-        put_word(self.memory, at, flag);
-        write_hand(
-            self.shape.code,
-            count,
-            nodes,
-            hand,
-            &mut self.memory[at + 4..at + 4 + size],
-        );
+    #[tactic(auto, using(crate::proofs::Fields::big_first))]
+    fn flag(place: &[u8]) -> u32 {
+        BigEndian::read_u32(place)
     }
 
-    fn release(&mut self, place: usize) {
-        let at = self.start(place);
-        put_word(self.memory, at, 0);
+    fn store(place: &mut [u8], format: Format, new_flag: u32, hand: &[u32]) {
+        put_word(place, 0, new_flag);
+        format.write(hand, &mut place[4..]);
     }
 
-    fn load(&self, place: usize, hand: &mut [u32]) {
-        let at = self.start(place) + 4;
-        let count = self.shape.switches as usize;
-        let nodes = self.shape.nodes as usize;
-        let size = copy_length(count, nodes);
-        fill_hand(count, nodes, &self.memory[at..at + size], hand);
+    #[tactic(auto, using(crate::proofs::FramePlaces::frame_freed))]
+    fn release(place: &mut [u8]) {
+        put_word(place, 0, 0);
     }
-}
 
-impl<'a> Frames<'a> {
-    // Where a place begins.
-    fn start(&self, place: usize) -> usize
-        requires { (frames_fit self.now.shape self.now.memory.now) × (place < self.now.shape.capacity) }
-        ensures value { result ≡ place * frame_place self.now.shape.switches self.now.shape.nodes }
-        ensures room { result + frame_place self.now.shape.switches self.now.shape.nodes ≤ length self.now.memory.now }
-    {
-        place * (4 + copy_length(self.shape.switches as usize, self.shape.nodes as usize))
+    fn load(place: &[u8], format: Format, hand: &mut [u32]) {
+        format.fill(&place[4..], hand);
     }
 }

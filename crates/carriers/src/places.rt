@@ -1,52 +1,70 @@
-// Places of a pool's memory, each for one copy.
-ghost use Rattle.std.specs.Prelude.{◌≡◌, ℕ, ◌<◌, List, length};
-ghost use Rattle.carriers.specs.Stores.{Stored, Released};
-ghost use Rattle.carriers.specs.declared.places.Shape.{Shape};
+// How places for copies lie in memory of bytes or of words.
+ghost use Rattle.std.specs.Prelude.{◌≡◌, ℕ, ◌<◌, ◌≤◌, List, length, replicate};
+ghost use Rattle.carriers.specs.Memory.{part};
+ghost use Rattle.carriers.specs.declared.shape.Shape.{Shape};
 ghost use Rattle.step.specs.Records.{hand_length};
 
-// What copies a pool is for, and how many places it has for them.
-#[derive(Clone, Copy)]
-pub(crate) struct Shape {
-    pub(crate) code: u32,
-    pub(crate) switches: u32,
-    pub(crate) nodes: u32,
-    pub(crate) capacity: usize,
-}
+use crate::format::Format;
+use crate::shape::Shape;
 
-// A row of places. Each has a flag, which is 0 where the place is free, and a copy.
-pub(crate) trait Places {
-    ghost outline: { Self → Shape };
+// What memory is made of. A place has a flag, which is 0 where the place is free, and a copy. The flag lies in the lent memory,
+// so it is a word and no `Option`.
+pub trait Places: Sized {
+    ghost zero: { Self };
 
-    ghost flags: { Self → ℕ → ℕ };
+    // How long a place is, for so many switches and nodes.
+    ghost width: { ℕ → ℕ → ℕ };
 
-    ghost copies: { Self → ℕ → List ℕ };
+    // The flag and the copy that a place holds.
+    ghost flag: { List Self → ℕ };
 
-    // The memory is long enough for its places.
-    ghost fitting: { Self → Type 0 };
+    ghost copy: { ℕ → ℕ → List Self → List ℕ };
 
-    fn shape(&self) -> Shape
-        ensures { result ≡ outline self.now };
+    // The flags and the copies of a memory's places, by their numbers.
+    ghost flags: { Shape → List Self → ℕ → ℕ };
 
-    fn flag(&self, place: usize) -> u32
-        requires { (fitting self.now) × (place < (outline self.now).capacity) }
-        ensures { result ≡ flags self.now place };
+    ghost copies: { Shape → List Self → ℕ → List ℕ };
+
+    // Writes zeros over a memory. Not written once with `fill`: that asks that a clone of the zero cannot fail,
+    // which was not proved of a type parameter.
+    fn clear(memory: &mut [Self])
+        ensures { memory.new ≡ replicate (length memory.old) zero };
+
+    fn width(format: Format) -> usize
+        ensures { result ≡ width format.switches format.nodes };
+
+    fn flag(place: &[Self]) -> u32
+        requires { width 0 0 ≤ length place.now }
+        ensures { result ≡ flag place.now };
 
     // Puts a copy into a place, under a flag.
-    fn store(&mut self, place: usize, flag: u32, hand: &[u32])
-        requires { (fitting self.old) × ((place < (outline self.old).capacity) × (length hand.now ≡ hand_length (outline self.old).switches (outline self.old).nodes)) }
-        ensures places { Stored (flags self.old) (flags self.new) (copies self.old) (copies self.new) (outline self.old).capacity place flag hand.now }
-        ensures shape { outline self.new ≡ outline self.old }
-        ensures fitting { fitting self.new };
+    fn store(place: &mut [Self], format: Format, new_flag: u32, hand: &[u32])
+        requires whole { length place.old ≡ width format.switches format.nodes }
+        requires hand { length hand.now ≡ hand_length format.switches format.nodes }
+        ensures flag { flag place.new ≡ new_flag }
+        ensures copy { copy format.switches format.nodes place.new ≡ hand.now };
 
     // Frees a place.
-    fn release(&mut self, place: usize)
-        requires { (fitting self.old) × (place < (outline self.old).capacity) }
-        ensures places { Released (flags self.old) (flags self.new) (copies self.old) (copies self.new) (outline self.old).capacity place }
-        ensures shape { outline self.new ≡ outline self.old }
-        ensures fitting { fitting self.new };
+    fn release(place: &mut [Self])
+        requires { width 0 0 ≤ length place.old }
+        ensures { flag place.new ≡ 0 };
 
     // Fills the hand with the copy of a place.
-    fn load(&self, place: usize, hand: &mut [u32])
-        requires { (fitting self.now) × ((place < (outline self.now).capacity) × (length hand.old ≡ hand_length (outline self.now).switches (outline self.now).nodes)) }
-        ensures { hand.new ≡ copies self.now place };
+    fn load(place: &[Self], format: Format, hand: &mut [u32])
+        requires whole { length place.now ≡ width format.switches format.nodes }
+        requires hand { length hand.old ≡ hand_length format.switches format.nodes }
+        ensures { hand.new ≡ copy format.switches format.nodes place.now };
+
+    // A place is as long as the least one, which is not empty, or longer.
+    ghost some: { 0 < width 0 0 };
+
+    ghost least: { (n m : ℕ) → width 0 0 ≤ width n m };
+
+    // Memory of zeros has free places only.
+    ghost zeros: { (s : Shape) (memory : List Self) (size k : ℕ) → memory ≡ replicate size zero → flags s memory k ≡ 0 };
+
+    // They are those of the parts of the memory.
+    ghost flag_there: { (s : Shape) (memory : List Self) (k : ℕ) → flags s memory k ≡ flag (part (width s.switches s.nodes) memory k) };
+
+    ghost copy_there: { (s : Shape) (memory : List Self) (k : ℕ) → copies s memory k ≡ copy s.switches s.nodes (part (width s.switches s.nodes) memory k) };
 }

@@ -1,58 +1,56 @@
 // Places of words: the flag, and then the hand.
-ghost use Rattle.std.specs.Prelude.{◌≡◌, ◌+◌, ◌*◌, ◌<◌, ◌≤◌, length};
-ghost use Rattle.carriers.specs.WordPlaces.{word_copy, word_flag, word_place, words_fit};
+ghost use Rattle.std.specs.Prelude.{◌+◌, drop, slice_index};
+ghost use Rattle.carriers.specs.WordPlaces.{word_copied, word_copy, word_flag, word_place};
+ghost use Rattle.carriers.specs.WordLaws.{word_copy_there, word_flag_there, word_least, word_some, word_zeros};
 
-use crate::copy::hand_length;
-use crate::places::{Places, Shape};
+use crate::format::Format;
+use crate::places::Places;
 
-#[derive(Drop)]
-pub(crate) struct Words<'a> {
-    pub(crate) memory: &'a mut [u32],
-    pub(crate) shape: Shape,
-}
+impl Places for u32 {
+    ghost zero = { 0 };
 
-impl<'a> Places for Words<'a> {
-    ghost outline = { λ s. s.shape };
+    ghost width = { word_place };
 
-    ghost flags = { λ s. word_flag s.shape s.memory.now };
+    ghost flag = { λ place. slice_index place 0 };
 
-    ghost copies = { λ s. word_copy s.shape s.memory.now };
+    ghost copy = { word_copied };
 
-    ghost fitting = { λ s. words_fit s.shape s.memory.now };
+    ghost flags = { word_flag };
 
-    fn shape(&self) -> Shape {
-        self.shape
+    ghost copies = { word_copy };
+
+    ghost some = { word_some };
+
+    ghost least = { word_least };
+
+    ghost zeros = { word_zeros };
+
+    ghost flag_there = { word_flag_there };
+
+    ghost copy_there = { word_copy_there };
+
+    fn clear(memory: &mut [u32]) {
+        memory.fill(0);
     }
 
-    fn flag(&self, place: usize) -> u32 {
-        self.memory[self.start(place)]
+    fn width(format: Format) -> usize {
+        1 + format.hand_length()
     }
 
-    fn store(&mut self, place: usize, flag: u32, hand: &[u32]) {
-        let at = self.start(place);
-        let size = hand.len();
-        self.memory[at] = flag;
-        self.memory[at + 1..at + 1 + size].copy_from_slice(hand);
+    fn flag(place: &[u32]) -> u32 {
+        place[0]
     }
 
-    fn release(&mut self, place: usize) {
-        let at = self.start(place);
-        self.memory[at] = 0;
+    fn store(place: &mut [u32], _format: Format, new_flag: u32, hand: &[u32]) {
+        place[0] = new_flag;
+        place[1..].copy_from_slice(hand);
     }
 
-    fn load(&self, place: usize, hand: &mut [u32]) {
-        let at = self.start(place) + 1;
-        hand.copy_from_slice(&self.memory[at..at + hand.len()]);
+    fn release(place: &mut [u32]) {
+        place[0] = 0;
     }
-}
 
-impl<'a> Words<'a> {
-    // Where a place begins.
-    fn start(&self, place: usize) -> usize
-        requires { (words_fit self.now.shape self.now.memory.now) × (place < self.now.shape.capacity) }
-        ensures value { result ≡ place * word_place self.now.shape.switches self.now.shape.nodes }
-        ensures room { result + word_place self.now.shape.switches self.now.shape.nodes ≤ length self.now.memory.now }
-    {
-        place * (1 + hand_length(self.shape.switches, self.shape.nodes))
+    fn load(place: &[u32], _format: Format, hand: &mut [u32]) {
+        hand.copy_from_slice(&place[1..]);
     }
 }

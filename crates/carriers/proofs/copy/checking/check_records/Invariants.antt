@@ -1,9 +1,0 @@
-use Rattle.std.proofs.Common.{◌≡◌, Ok}
-use Rattle.table.specs.declared.fault.Reason.TheVariants.{Copy}
-use Rattle.carriers.specs.Copies.{record_offset, records_read}
-use Rattle.carriers.proofs.copy.checking.check_records.Given as goal
-
-abbrev pub invariant-loop-j : goal.invariant-loop-j
-invariant-loop-j l =
-    (l.reader.bytes.now ≡ l.initial.reader.bytes.now) × (l.reader.short ≡ Copy) × (l.reader.at ≡ record_offset l.nodes l._j)
-    × (records_read l._j l.nodes l.initial.reader.bytes.now ≡ Ok tt)

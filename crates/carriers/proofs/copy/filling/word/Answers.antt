@@ -1,7 +1,0 @@
-use Rattle.std.proofs.Common.{rules}
-use Rattle.table.specs.Wire.{word_at}
-use Rattle.carriers.proofs.copy.filling.word.Goals as goal
-
-pub returns : goal.returns
-unfolding word_at
-returns c = search rules

@@ -1,7 +1,0 @@
-use Rattle.std.proofs.Common.{refl}
-use Rattle.std.proofs.lemmas.List.{take_rest}
-use Rattle.carriers.proofs.CopyWrites.{copy_written}
-use Rattle.carriers.proofs.copy.writing.write_hand.Goals as goal
-
-pub returns : goal.returns
-returns c = copy_written c.args.bytes.now _ _ _ _ c.args.hand.now _ c.args.code c.args.count c.args.nodes _ c.requires.1.1.0 c.requires.1.1.1 refl (take_rest c.args.hand.now 1) c.put_word.ensures c.put_word-2.ensures c.put_word-3.ensures c.put_records.ensures
