@@ -1,4 +1,5 @@
 mod Middle
 mod NewFleet
 mod Outcomes
+mod Refused
 mod Running

@@ -1,29 +1,19 @@
 -- A block in the middle of a memory. Assumes nothing.
-use Rattle.std.proofs.Common.{◌≡◌, ℕ, ◌+◌, ◌-◌, ◌*◌, ◌<◌, ◌≤◌, true, false, eqb, List, [], ◌∷◌, ◌++◌, length, get_or, take, drop, set, None, Ok, Result, sym, ap, ◌∙◌, add_assoc, arith}
+use Rattle.std.proofs.Common.{◌≡◌, ℕ, ◌+◌, ◌-◌, ◌*◌, ◌<◌, ◌≤◌, true, false, eqb, List, [], ◌∷◌, ◌++◌, length, get_or, take, drop, set, None, sym, ap, ◌∙◌, add_assoc, arith}
 use borrow.Rule.Slice.PartMut.{put_mid}
 use lib.Seq.{paste}
 use Rattle.std.proofs.lemmas.List.{append-nil, drop_all, get_or-drop, get_or-take, take-take}
 use Rattle.std.proofs.lemmas.Slice.{put_mid-paste}
 use Rattle.std.proofs.lemmas.Bool.{eq-eqb, lt-ltb}
 use Rattle.table.specs.Tables.{Table}
-use Rattle.table.specs.declared.fault.Fault.{Fault}
 use Rattle.step.specs.Nodes.{WordKind}
-use Rattle.step.specs.Opening.{open_block, open_refusal, opened}
 use Rattle.step.specs.Records.{block_length, hand_length, records_length}
-use Rattle.step.specs.Steps.{Act, Fitting, acted_block, advanced, answer_of, block_of, hand_fits, max_count, outcome, own_count, register_fits, step_answer, step_block, step_refusal}
-use Rattle.step.specs.declared.advance.Outcome.{Outcome}
+use Rattle.step.specs.Steps.{Act, Fitting, acted_block, advanced, block_of, hand_fits, max_count, own_count, register_fits, step_block, step_refusal}
 use Rattle.step.proofs.Rows.{row_inside}
 use Rattle.history.proofs.Rows.{row_length}
 use Rattle.fleet.specs.Blocks.{Able, Inside, block_in, word_in}
 
--- a block of the table's shape can be opened
-pub can_open : (t : Table) (s : ℕ) (block : List ℕ) → Fitting t s block → open_refusal t s block ≡ None
-can_open t s block fits =
-    let shape = eq-eqb (length block) (block_length t.switches (length t.nodes)) fits.shape in
-    let there = lt-ltb s t.switches fits.there in
-    simp (shape, there)
-
--- and a step made in it
+-- a step can be made in a block of the table's shape
 pub can_step : (t : Table) (s : ℕ) (a : Act) (block : List ℕ) → Fitting t s block
     → hand_fits (hand_length t.switches (length t.nodes)) a ≡ true → register_fits a ≡ true
     → eqb (own_count (length t.nodes) s block) max_count ≡ false → step_refusal t s a block ≡ None
@@ -60,11 +50,6 @@ module _ (t : Table) (s : ℕ) (memory : List ℕ) (inside : Inside t s memory) 
         let long : size ≡ at + size - at = omega arith in
         ap length part_there ∙ fitting.shape ∙ sym wide ∙ long
 
-    pub opened_there : (k : WordKind) (ys : List ℕ) → ys ≡ open_block k t s (take (at + size - at) (drop at memory)) → ys ≡ opened k t s
-    opened_there k ys is =
-        is ∙ ap (λ p. block_of (open_refusal t s p) p (opened k t s)) part_there
-        ∙ ap (λ o. block_of o (block_in t memory s) (opened k t s)) (can_open t s (block_in t memory s) fitting)
-
     module _ (a : Act) (able : Able t s a memory) where
       can_step_there : step_refusal t s a (take (at + size - at) (drop at memory)) ≡ None
       can_step_there =
@@ -76,12 +61,6 @@ module _ (t : Table) (s : ℕ) (memory : List ℕ) (inside : Inside t s memory) 
           is
           ∙ ap (λ o. block_of o (take (at + size - at) (drop at memory)) (advanced k t s (acted_block t s a (take (at + size - at) (drop at memory))))) can_step_there
           ∙ ap (λ p. advanced k t s (acted_block t s a p)) part_there
-
-      pub answered_there : (k : WordKind) (r : Result Outcome Fault) → r ≡ step_answer k t s a (take (at + size - at) (drop at memory)) → r ≡ Ok (outcome k t s a (block_in t memory s))
-      answered_there k r is =
-          is
-          ∙ ap (λ o. answer_of o (outcome k t s a (take (at + size - at) (drop at memory)))) can_step_there
-          ∙ ap (λ p. Ok (outcome k t s a p)) part_there
 
     -- what is written there
     pub put_there : (ys zs : List ℕ) → ys ≡ zs → length ys ≡ at + size - at
@@ -102,9 +81,6 @@ module _ (t : Table) (s : ℕ) (memory : List ℕ) (inside : Inside t s memory) 
       ∙ get_or-take size (drop (s * size) memory) (j * (m + 1) + i) 0 (omega (arith, front))
       ∙ get_or-drop (s * size) memory (j * (m + 1) + i) 0
       ∙ ap (λ z. get_or memory z 0) (sym (add_assoc (s * size) (j * (m + 1)) i))
-
-  pub word_inside : (j i : ℕ) → j < t.switches → i ≤ length t.nodes → s * block_length t.switches (length t.nodes) + j * (length t.nodes + 1) + i < length memory
-  word_inside j i there within = omega (arith, row_inside j (length t.nodes + 1) t.switches there, block_inside)
 
   -- the front of the block, without its registers
   pub front_there : (at k : ℕ) → at ≡ s * block_length t.switches (length t.nodes) → k ≡ records_length t.switches (length t.nodes) → take (at + k - at) (drop at memory) ≡ take (records_length t.switches (length t.nodes)) (block_in t memory s)

@@ -1,13 +1,15 @@
 -- How a call ends: refused at the first tests, refused for want of the copy, or made. Assumes nothing.
-use Rattle.std.proofs.Common.{◌≡◌, ℕ, Bool, true, false, cond, ◌&&◌, eqb, ltb, List, ◌∷◌, length, take, Some, None, Ok, Err, Option, Result, sym, refl, ap, ◌∙◌, arith}
+use Rattle.std.proofs.Common.{◌≡◌, ℕ, Bool, true, false, cond, ◌&&◌, eqb, ltb, List, ◌∷◌, length, take, Some, None, Ok, Err, Option, Result, IsErrAnd, sym, refl, ap, ◌∙◌, arith}
 use Rattle.std.proofs.lemmas.List.{length-take-le}
 use Rattle.std.proofs.lemmas.Bool.{and_from, and_parts, eq-eqb, eqb-true, lt-ltb}
 use Rattle.table.specs.Tables.{Table}
-use Rattle.table.specs.Wire.{refuse}
+use Rattle.std.proofs.lemmas.Result.{err_from_is_err_and}
+use Rattle.table.specs.Wire.{fault, refuse}
 use Rattle.table.specs.declared.fault.Fault.{Fault}
 use Rattle.table.specs.declared.fault.Reason.{Reason}
 use Rattle.table.specs.declared.fault.Reason.TheVariants as why
 use Rattle.step.specs.Nodes.{WordKind}
+use Rattle.step.specs.Refusing.{refused_by}
 use Rattle.step.specs.Records.{block_length, hand_length, records_length}
 use Rattle.step.specs.Steps.{answer_of, max_count, own_count, send}
 use Rattle.carriers.specs.Figures.{figures_of}
@@ -21,6 +23,7 @@ use Rattle.fleet.specs.FleetCalls.{Called, early, fleet_refusal, or_else, reply_
 use Rattle.fleet.specs.Shapes.{carries, shaped, sized, state}
 use Rattle.fleet.specs.declared.call.Reply.{Reply}
 use Rattle.fleet.proofs.Middle.{fitting}
+use Rattle.fleet.proofs.Refused.{no_reason, reason_of}
 
 -- Reasons one after another
 
@@ -74,14 +77,16 @@ module _ (code : ℕ) (k : WordKind) (t : Table) (live : Bool) (f : Fleet) where
       sound = sound;
     }
 
-    pub refused_first : (w : Reason) → Some w ≡ first c → Called code k t live f live f c (refuse w 0) kept
-    refused_first w is = ends (Some w) (whole ∙ ap (λ z. or_else z (late c)) (sym is)) (refuse w 0) f refl refl
+    pub refused_first : (w : Reason) → Err w ≡ refused_by (first c) → (r : Result Reply Fault) → IsErrAnd r (λ e. e ≡ fault w 0) → Called code k t live f live f c r kept
+    refused_first w is r h =
+        let p = err_from_is_err_and r h in
+        ends (Some w) (whole ∙ ap (λ z. or_else z (late c)) (sym (reason_of (first c) w is))) r f (p.1 ∙ ap Err p.2) refl
 
-    pub refused_late : None ≡ first c → (w : Reason) → late c ≡ Some w → (r : Result Reply Fault) → r ≡ refuse w 0 → (after : Fleet) → after ≡ f → Called code k t live f live after c r kept
-    refused_late none w is r answer after same = ends (Some w) (whole ∙ ap (λ z. or_else z (late c)) (sym none) ∙ is) r after answer same
+    pub refused_late : (u : Unit {0}) → Ok u ≡ refused_by (first c) → (w : Reason) → late c ≡ Some w → (r : Result Reply Fault) → r ≡ refuse w 0 → (after : Fleet) → after ≡ f → Called code k t live f live after c r kept
+    refused_late u none w is r answer after same = ends (Some w) (whole ∙ ap (λ z. or_else z (late c)) (sym (no_reason (first c) u none)) ∙ is) r after answer same
 
-    pub made : None ≡ first c → late c ≡ None → (r : Result Reply Fault) → r ≡ Ok (reply_of (history.reply k t f c)) → (after : Fleet) → after ≡ after_call k t f c → Called code k t live f live after c r kept
-    made none is r answer after done = ends None (whole ∙ ap (λ z. or_else z (late c)) (sym none) ∙ is) r after answer done
+    pub made : (u : Unit {0}) → Ok u ≡ refused_by (first c) → late c ≡ None → (r : Result Reply Fault) → r ≡ Ok (reply_of (history.reply k t f c)) → (after : Fleet) → after ≡ after_call k t f c → Called code k t live f live after c r kept
+    made u none is r answer after done = ends None (whole ∙ ap (λ z. or_else z (late c)) (sym (no_reason (first c) u none)) ∙ is) r after answer done
 
 -- What the first tests say
 
@@ -94,7 +99,10 @@ not_full : (full : Bool) → cond full (Some why.Full) None ≡ None → full �
 not_full true is = let z : ◌≡◌ {A = ℕ} 0 1 = cc is in absurd (omega arith)
 not_full false is = refl
 
-module _ (code : ℕ) (k : WordKind) (t : Table) (live : Bool) (f : Fleet) (c : history.Call) (none : None ≡ first code k t live f c) where
+module _ (code : ℕ) (k : WordKind) (t : Table) (live : Bool) (f : Fleet) (c : history.Call) (u : Unit {0}) (admitted : Ok u ≡ refused_by (first code k t live f c)) where
+  none : None ≡ first code k t live f c
+  none = no_reason (first code k t live f c) u admitted
+
   -- the carrier is for the table
   carrier_same : (f.carrier.switches ≡ t.switches) × (f.carrier.nodes ≡ length t.nodes)
   carrier_same =
@@ -116,22 +124,18 @@ module _ (code : ℕ) (k : WordKind) (t : Table) (live : Bool) (f : Fleet) (c : 
       let fits = hand_whole hand long in
       (ap (λ b. cond b (found_answer (copy_under x f.carrier.held)) (refuse why.Shape 0)) fits, ap (λ b. cond b (found_hand (copy_under x f.carrier.held) hand) hand) fits)
 
--- A copy that is held, and one that is not
+-- A copy that is not held
 
 module _ (k : WordKind) (t : Table) where
   pub found_refused : (o : Option (List ℕ)) (hand : List ℕ) (e : Fault) → Err e ≡ found_answer o → (held_or k t o ≡ Some why.NotHeld) × (◌≡◌ {A = Result Reply Fault} (Err e) (refuse why.NotHeld 0)) × (found_hand o hand ≡ hand)
   found_refused None hand e is = (refl, (cc is), refl)
   found_refused (Some copy) hand e is = let z : ◌≡◌ {A = ℕ} 0 1 = cc is in absurd (omega arith)
 
-  pub found_there : (o : Option (List ℕ)) (hand : List ℕ) (u : Unit {0}) → Ok u ≡ found_answer o → (held_or k t o ≡ None) × (found_hand o hand ≡ or_hand k t o hand)
-  found_there None hand u is = let z : ◌≡◌ {A = ℕ} 0 1 = cc is in absurd (omega arith)
-  found_there (Some copy) hand u is = (refl, refl)
-
 -- A send's copy is put
 
-module _ (code : ℕ) (k : WordKind) (t : Table) (live : Bool) (f : Fleet) (s : ℕ) (none : None ≡ first code k t live f (send_call s)) where
+module _ (code : ℕ) (k : WordKind) (t : Table) (live : Bool) (f : Fleet) (s : ℕ) (u : Unit {0}) (admitted : Ok u ≡ refused_by (first code k t live f (send_call s))) where
   has_space : no_space f.carrier ≡ false
-  has_space = not_full _ (neither (stuck_by t f.memory s) _ (sym (neither (unready_by live code t f) _ none).1)).1
+  has_space = not_full _ (neither (stuck_by t f.memory s) _ (sym (neither (unready_by live code t f) _ (no_reason (first code k t live f (send_call s)) u admitted)).1)).1
 
   module _ (memory : List ℕ) (inside : Inside t s memory) where
     copy_long : length (copy_in t memory s) ≡ hand_length t.switches (length t.nodes)
@@ -139,8 +143,8 @@ module _ (code : ℕ) (k : WordKind) (t : Table) (live : Bool) (f : Fleet) (s : 
 
     can_send : sendable f.carrier (copy_in t memory s) ≡ true
     can_send = and_from _ _
-        (hand_whole code k t live f (send_call s) none (copy_in t memory s) copy_long)
-        (lt-ltb s f.carrier.switches (omega (arith, inside.there, (carrier_same code k t live f (send_call s) none).0)))
+        (hand_whole code k t live f (send_call s) u admitted (copy_in t memory s) copy_long)
+        (lt-ltb s f.carrier.switches (omega (arith, inside.there, (carrier_same code k t live f (send_call s) u admitted).0)))
 
     pub put_is : (hand : List ℕ) → hand ≡ copy_in t memory s → (put_answer f.carrier hand ≡ Ok f.carrier.next) × (put_after f.carrier hand ≡ with_copy f.carrier (copy_in t memory s))
     put_is hand same = (

@@ -1,15 +1,16 @@
 -- A list of calls, one after another. Assumes nothing.
-use Rattle.std.proofs.Common.{◌≡◌, ℕ, zero, suc, ◌+◌, ◌<◌, ◌≤◌, Bool, cond, ◌&&◌, eqb, List, [], ◌∷◌, ◌++◌, length, get_or, take, drop, set, Some, None, Ok, Err, Option, Result, sym, refl, ap, ◌∙◌, arith}
+use Rattle.std.proofs.Common.{◌≡◌, ℕ, zero, suc, ◌+◌, ◌<◌, ◌≤◌, Bool, cond, ◌&&◌, eqb, List, [], ◌∷◌, ◌++◌, length, get_or, take, drop, set, Some, None, Ok, Err, Option, Result, IsErrAnd, sym, refl, ap, ◌∙◌, arith}
 use Rattle.std.proofs.ByRecursion.{All-push}
 use Rattle.std.proofs.lemmas.List.{append_assoc, append-nil, drop_all, drop_more, length-map, length-take-le, map_more, set_at, take_all}
 use Rattle.std.proofs.lemmas.Bool.{eq-eqb, ne_eqb}
 use Rattle.std.specs.List.{AllByRecursion}
 use Rattle.table.specs.Tables.{Table}
-use Rattle.table.specs.Wire.{refuse}
+use Rattle.table.specs.Wire.{fault, refuse}
 use Rattle.table.specs.declared.fault.Fault.{Fault}
 use Rattle.table.specs.declared.fault.Reason.{Reason}
 use Rattle.table.specs.declared.fault.Reason.TheVariants as why
 use Rattle.step.specs.Nodes.{WordKind}
+use Rattle.step.specs.Refusing.{refused_by}
 use Rattle.step.specs.Steps.{answer_of}
 use Rattle.carriers.specs.Figures.{figures_of}
 use Rattle.history.specs.Calls as history
@@ -21,6 +22,7 @@ use Rattle.fleet.specs.FleetRuns.{Ran, answers, listed, replies_of, result_of, r
 use Rattle.fleet.specs.Shapes.{carries, shaped, sized}
 use Rattle.fleet.specs.declared.call.Call.{Call}
 use Rattle.fleet.specs.declared.call.Reply.{Reply}
+use Rattle.fleet.proofs.Refused.{handed_out, reason_of}
 
 -- The calls of a list, and one more
 
@@ -144,6 +146,21 @@ module _ (code : ℕ) (k : WordKind) (t : Table) (live : Bool) (before : Fleet) 
     pub said_after_all : (j : ℕ) → j < length (listed calls) → said_by new j ≡ answer_at k t before (listed calls) j
     said_after_all j lt = ap told (each_after_all j (refuse why.Shape 0) lt) ∙ told_back (answer_at k t before (listed calls) j)
 
+  -- no call can be made
+  pub unmade : {kept : Type 0} → kept → (w : Reason) → Err w ≡ refused_by (unready_by live code t before) → (r : Result (Unit {0}) Fault) → IsErrAnd r (λ e. e ≡ fault w 0)
+      → Ran code k t live before live before (listed calls) old old r kept
+  unmade sound w is r h =
+      let uneven = cond (eqb (length old) (length (listed calls))) None (Some why.Shape) in
+      let refusal : run_refusal live code t before (length (listed calls)) (length old) ≡ Some w = sym (ap (λ o. or_else o uneven) (reason_of (unready_by live code t before) w is)) in
+      record {
+        answer = handed_out (unready_by live code t before) uneven w is tt r h;
+        fleet = sym (ap (λ o. fleet_of k t o before (ran k t before (listed calls))) refusal);
+        replies = sym (ap (λ o. replies_of o old (answers k t before (listed calls))) refusal);
+        each = λ none j e lt. let z : ◌≡◌ {A = ℕ} 0 1 = cc in absurd (omega arith);
+        stays = refl;
+        sound = sound;
+      }
+
   module _ (ready : unready_by live code t before ≡ None) where
     -- as many replies as calls
     pub finishes : {kept : Type 0} (Live-now : Bool) (f : Fleet) (i : ℕ) (new : List (Result Reply Fault)) → Running code k t live before calls old Live-now f i new kept → length calls ≤ i → length old ≡ length calls
@@ -161,12 +178,12 @@ module _ (code : ℕ) (k : WordKind) (t : Table) (live : Bool) (before : Fleet) 
         }
 
     -- and otherwise
-    pub uneven : {kept : Type 0} → kept → (length old ≡ length calls → ⊥) → Ran code k t live before live before (listed calls) old old (refuse why.Shape 0) kept
-    uneven sound differ =
+    pub uneven : {kept : Type 0} → kept → (length old ≡ length calls → ⊥) → (e : Fault) → e ≡ fault why.Shape 0 → Ran code k t live before live before (listed calls) old old (Err e) kept
+    uneven sound differ e shape =
         let wrong = ne_eqb (length old) (length (listed calls)) (λ e. differ (e ∙ length-map calls call_of)) in
         let refusal : run_refusal live code t before (length (listed calls)) (length old) ≡ Some why.Shape = ap (λ o. or_else o (cond (eqb (length old) (length (listed calls))) None (Some why.Shape))) ready ∙ ap (λ b. cond b None (Some why.Shape)) wrong in
         record {
-          answer = sym (ap (λ o. answer_of o tt) refusal);
+          answer = ap Err shape ∙ sym (ap (λ o. answer_of o tt) refusal);
           fleet = sym (ap (λ o. fleet_of k t o before (ran k t before (listed calls))) refusal);
           replies = sym (ap (λ o. replies_of o old (answers k t before (listed calls))) refusal);
           each = λ none j e lt. let z : ◌≡◌ {A = ℕ} 0 1 = cc in absurd (omega arith);

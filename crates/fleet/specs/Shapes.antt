@@ -1,7 +1,8 @@
 -- What fits a table: memory, hand and carrier. Assumes nothing.
-use Rattle.std.specs.Prelude.{◌≡◌, ℕ, ◌*◌, Bool, true, cond, ◌&&◌, List, length, ◌==◌, nat_le}
+use Rattle.std.specs.Prelude.{◌≡◌, ℕ, ◌*◌, Bool, true, cond, ◌&&◌, List, length, Ok, Err, Result, ◌==◌, nat_le}
 use Rattle.table.specs.Refusals.{number}
 use Rattle.table.specs.Tables.{Table}
+use Rattle.table.specs.declared.fault.Reason.{Reason}
 use Rattle.table.specs.declared.fault.Reason.TheVariants as why
 use Rattle.step.specs.Nodes.{WordKind}
 use Rattle.step.specs.Records.{block_length, hand_length}
@@ -44,6 +45,11 @@ unused g = g.next == 0 && (g.held == 0 && nat_le 1 g.capacity)
 -- everything fits the table, and the carrier is new
 abbrev pub fits : ℕ → Table → Fleet → Bool
 fits code t f = shaped code t f && unused (figures_of f.carrier)
+
+-- the number of an answer: 0, or the number of the refusal
+abbrev pub answer_number : Result (Unit {0}) Reason → ℕ
+answer_number (Ok u) = 0
+answer_number (Err r) = number r
 
 -- 0, or the number of the refusal for a wrong shape
 abbrev pub fit_answer : ℕ → Table → Fleet → ℕ

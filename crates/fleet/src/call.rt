@@ -24,8 +24,8 @@ pub enum Call {
     },
 }
 
-// What an accepted call answers; a retire answers zeros.
-#[derive(Clone, Copy, Debug, PartialEq)]
+// What an accepted call answers; a retire answers zeros, as the listing's definition has it.
+#[derive(Clone, Copy, Debug, Default, PartialEq)]
 pub struct Reply {
     // The own count after the step.
     pub count: u32,
@@ -36,7 +36,7 @@ pub struct Reply {
 }
 
 impl Reply {
-    // The reply of an event.
+    // The reply of an event. No `From`: an outcome and a number are two values.
     pub(crate) fn of(outcome: Outcome, number: Option<u32>) -> Reply
         ensures { result ≡ reply_with outcome number }
     {

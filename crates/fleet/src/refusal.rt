@@ -1,18 +1,17 @@
-// Why a call is refused, as far as table, memory and the carrier's figures say.
-ghost use Rattle.std.specs.Prelude.{◌≡◌, ◌*◌, length, IfNone};
+// Whether a call is admitted, as far as table, memory and the carrier's figures say.
+ghost use Rattle.std.specs.Prelude.{◌≡◌, OnOk};
 ghost use Rattle.fleet.specs.Blocks.{Able};
 ghost use Rattle.fleet.specs.FleetCalls.{Admits, call_of, early, full_by};
 ghost use Rattle.history.specs.Calls.{send_call, set_call};
-ghost use Rattle.step.specs.Records.{block_length};
+ghost use Rattle.step.specs.Refusing.{refused_by};
 ghost use Rattle.step.specs.Steps.{set_register};
 ghost use Rattle.table.specs.Views.{view};
 
-use crate::blocks::stuck;
+use crate::blocks::Blocks;
 use crate::call::Call;
 use carriers::carrier::Figures;
 use table::fault::Reason;
 use table::limits::REGISTERS;
-use table::table::Checked;
 
 // There is no space for another copy, or no number.
 fn is_full(figures: Figures) -> bool
@@ -21,57 +20,48 @@ fn is_full(figures: Figures) -> bool
     figures.held == figures.capacity || figures.next == u32::MAX
 }
 
-fn of_set(
-    table: &Checked,
-    memory: &[u32],
-    figures: Figures,
-    switch: u32,
-    register: u32,
-    word: u32,
-) -> Option<Reason>
-    requires { length memory.now ≡ (view table.now).switches * block_length (view table.now).switches (length (view table.now).nodes) }
-    ensures value { result ≡ early (view table.now) memory.now figures (set_call switch register word) }
-    ensures able { IfNone result (Able (view table.now) switch (set_register register word) memory.now) }
-{
-    if (switch as usize) < table.switches() && register as usize >= REGISTERS {
-        return Some(Reason::Operand);
+impl<'a, 'b> Blocks<'a, 'b> {
+    fn admit_set(
+        &self,
+        figures: Figures,
+        switch: u32,
+        register: u32,
+        word: u32,
+    ) -> Result<(), Reason>
+        ensures value { result ≡ refused_by (early (view self.now.table.now) self.now.memory.now figures (set_call switch register word)) }
+        ensures able { OnOk result (Able (view self.now.table.now) switch (set_register register word) self.now.memory.now) }
+    {
+        if (switch as usize) < self.table.switches() && register as usize >= REGISTERS {
+            return Err(Reason::Operand);
+        }
+        self.can_act(switch as usize)
     }
-    stuck(table, switch as usize, memory)
-}
 
-fn of_send(table: &Checked, memory: &[u32], figures: Figures, switch: u32) -> Option<Reason>
-    requires { length memory.now ≡ (view table.now).switches * block_length (view table.now).switches (length (view table.now).nodes) }
-    ensures value { result ≡ early (view table.now) memory.now figures (send_call switch) }
-    ensures able { IfNone result (Admits (view table.now) memory.now (send_call switch)) }
-{
-    if let Some(reason) = stuck(table, switch as usize, memory) {
-        return Some(reason);
+    fn admit_send(&self, figures: Figures, switch: u32) -> Result<(), Reason>
+        ensures value { result ≡ refused_by (early (view self.now.table.now) self.now.memory.now figures (send_call switch)) }
+        ensures able { OnOk result (Admits (view self.now.table.now) self.now.memory.now (send_call switch)) }
+    {
+        self.can_act(switch as usize)?;
+        if is_full(figures) {
+            return Err(Reason::Full);
+        }
+        Ok(())
     }
-    if is_full(figures) {
-        return Some(Reason::Full);
-    }
-    None
-}
 
-// Every test but whether a copy is held.
-pub(crate) fn of_call(
-    table: &Checked,
-    memory: &[u32],
-    figures: Figures,
-    call: Call,
-) -> Option<Reason>
-    requires { length memory.now ≡ (view table.now).switches * block_length (view table.now).switches (length (view table.now).nodes) }
-    ensures value { result ≡ early (view table.now) memory.now figures (call_of call) }
-    ensures able { IfNone result (Admits (view table.now) memory.now (call_of call)) }
-{
-    match call {
-        Call::Set {
-            switch,
-            register,
-            word,
-        } => of_set(table, memory, figures, switch, register, word),
-        Call::Send { switch } => of_send(table, memory, figures, switch),
-        Call::Receive { switch, .. } => stuck(table, switch as usize, memory),
-        Call::Retire { .. } => None,
+    // Every test but whether a copy is held.
+    pub(crate) fn admit(&self, figures: Figures, call: Call) -> Result<(), Reason>
+        ensures value { result ≡ refused_by (early (view self.now.table.now) self.now.memory.now figures (call_of call)) }
+        ensures able { OnOk result (Admits (view self.now.table.now) self.now.memory.now (call_of call)) }
+    {
+        match call {
+            Call::Set {
+                switch,
+                register,
+                word,
+            } => self.admit_set(figures, switch, register, word),
+            Call::Send { switch } => self.admit_send(figures, switch),
+            Call::Receive { switch, .. } => self.can_act(switch as usize),
+            Call::Retire { .. } => Ok(()),
+        }
     }
 }

@@ -5,7 +5,7 @@ ghost use Rattle.std.specs.Prelude.{◌≡◌, true, length};
 
 use carriers::carrier::Figures;
 use readings::reading::Reading;
-use table::limits::REGISTERS;
+use step::lengths::{block_length, hand_length};
 use table::table::Checked;
 
 // A carrier with these figures is for the table.
@@ -22,9 +22,7 @@ fn sized(table: &Checked, memory: &[u32], hand: &[u32]) -> bool
     ensures value { result ≡ sized (view table.now) (length memory.now) (length hand.now) }
     ensures lengths { result ≡ true → Sized (view table.now) memory.now hand.now }
 {
-    let switches = table.switches();
-    let records = switches * (table.nodes().len() + 1);
-    memory.len() == switches * (records + REGISTERS) && hand.len() == 1 + records
+    memory.len() == table.switches() * block_length(table) && hand.len() == hand_length(table)
 }
 
 // Table, memory, hand and carrier have the shape that the kind and the table ask for.
@@ -34,10 +32,10 @@ pub(crate) fn shaped<K: Reading>(
     hand: &[u32],
     figures: Figures,
 ) -> bool
-    ensures value { result ≡ shaped_by K.code (view table.now) (length memory.now) (length hand.now) figures }
+    ensures value { result ≡ shaped_by K.CODE (view table.now) (length memory.now) (length hand.now) figures }
     ensures lengths { result ≡ true → Sized (view table.now) memory.now hand.now }
 {
-    K::native(table.code()) && sized(table, memory, hand) && carries(table, figures)
+    table.code() == K::CODE && sized(table, memory, hand) && carries(table, figures)
 }
 
 // A carrier with these figures is new, and has space.

@@ -8,7 +8,8 @@ use Rattle.table.specs.Nodes.{is_truth, node_fits, reading_node, truth_node}
 use Rattle.table.specs.Tables.{Table, node_holds, sound}
 use Rattle.table.specs.declared.node.Node.{Node}
 use Rattle.table.specs.declared.node.Node.TheVariants.{Truth, Not, And, Or, Implies, Iff, Previously, Once, Always, Since, TruthAt, Within, Same, Constant, Register, Join, Cut, ReadingAt}
-use Rattle.step.specs.Logic.{Kind, Values, Before, none, after, Obeys, Meaning, previously, once, always, since}
+use Rattle.readings.specs.Kinds.{Kind}
+use Rattle.step.specs.Logic.{Values, Before, none, after, Obeys, Meaning, previously, once, always, since}
 use Rattle.step.specs.Truths.{implied, iff}
 
 -- node i of the table; past its end it does not matter

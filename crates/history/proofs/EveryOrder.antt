@@ -66,10 +66,8 @@ module _ (k : WordKind) (t : Table) (f : Fleet) (calls : List Call) (is_sound : 
   place_inside : (p : ℕ) → p < length order → get_or order p 0 < length calls
   place_inside p less = event_below k t f calls _ (next_event k t f calls is_sound new order allowed (take p order) (drop (suc p) order) (get_or order p 0) (at_place k t f calls is_sound new order allowed g new_g space p less))
 
-  pub every_answer : (said : ℕ → Result Reply Fault) → ((i : ℕ) → i < length calls → said i ≡ answer_at k t f calls i) → (p d : ℕ) → p < length order → SameAnswer (answer_at k t g (calls_of k t f calls order) p) (said (get_or order p d))
-  every_answer said said-is p d less =
-      subst (λ z. SameAnswer (answer_at k t g (calls_of k t f calls order) p) (said z)) (get_or_default order p 0 d less)
-      (subst (SameAnswer (answer_at k t g (calls_of k t f calls order) p)) (sym (said-is (get_or order p 0) (place_inside p less))) (same_answers p less))
+  pub every_answer : (p d : ℕ) → p < length order → SameAnswer (answer_at k t g (calls_of k t f calls order) p) (answer_at k t f calls (get_or order p d))
+  every_answer p d less = subst (λ z. SameAnswer (answer_at k t g (calls_of k t f calls order) p) (answer_at k t f calls z)) (get_or_default order p 0 d less) (same_answers p less)
 
   -- the number that a send answers
 

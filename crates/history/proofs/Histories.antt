@@ -3,8 +3,9 @@ use Rattle.std.proofs.Common.{◌≡◌, ℕ, zero, suc, ◌<◌, Bool, true, fa
 use Rattle.std.proofs.lemmas.Bool.{and_from, and_parts, and_right, cases_Bool, cases_eq, cond-false, cond-true, eq-eqb, eqb-true, ne_eqb}
 use Rattle.std.specs.List.{AllByRecursion}
 use Rattle.table.specs.Tables.{Table, sound}
-use Rattle.step.specs.Logic.{Kind, Lawful, Values, Meaning, after, none, on_words}
-use Rattle.step.specs.Nodes.{WordKind}
+use Rattle.readings.specs.Kinds.{Kind, Lawful}
+use Rattle.step.specs.Logic.{Values, Meaning, after, none}
+use Rattle.step.specs.Nodes.{on_words, WordKind}
 use Rattle.step.specs.Opening.{start_registers}
 use Rattle.step.specs.Records.{count_of}
 use Rattle.history.specs.Calls.{Call, Fleet}

@@ -7,8 +7,9 @@ use Rattle.table.specs.Limits.{register_count}
 use Rattle.table.specs.Tables.{Table, sound}
 use Rattle.step.proofs.OpeningMeaning.{opened_registers, opening_meaning}
 use Rattle.step.proofs.StepMeaning.{step_meaning}
-use Rattle.step.specs.Logic.{Kind, Lawful, Values, Meaning, after, none, on_words, values_of}
-use Rattle.step.specs.Nodes.{WordKind}
+use Rattle.readings.specs.Kinds.{Kind, Lawful}
+use Rattle.step.specs.Logic.{Values, Meaning, after, none, values_of}
+use Rattle.step.specs.Nodes.{on_words, WordKind}
 use Rattle.step.specs.Opening.{opened, start_registers}
 use Rattle.step.specs.Records.{record_of, records_length, registers_of}
 use Rattle.step.specs.StepLaws.{record_words}

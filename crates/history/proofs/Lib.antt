@@ -1,4 +1,5 @@
 pub mod Agreement
+pub mod Answered
 pub mod BlockSteps
 pub mod Calling
 pub mod Carrier

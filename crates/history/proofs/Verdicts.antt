@@ -9,14 +9,15 @@ use Rattle.table.specs.Tables.{Table, every, sound}
 use Rattle.table.specs.declared.fault.Fault.{Fault}
 use Rattle.table.specs.declared.node.Rule.{Rule}
 use Rattle.step.proofs.Laws.{step_law}
-use Rattle.step.specs.Logic.{Kind, Lawful, Values, after, on_words, values_of}
-use Rattle.step.specs.Nodes.{WordKind}
+use Rattle.readings.specs.Kinds.{Kind, Lawful}
+use Rattle.step.specs.Logic.{Values, after, values_of}
+use Rattle.step.specs.Nodes.{on_words, WordKind}
 use Rattle.step.specs.Opening.{start_registers}
 use Rattle.step.specs.Records.{count_of, record_of}
 use Rattle.step.specs.Steps.{acted_block, own_count, own_mask, own_words}
 use Rattle.history.specs.Calls.{Call, Fleet, Reply, block_at}
-use Rattle.history.specs.Law.{Counts, History, knows, mask_of}
-use Rattle.history.specs.AnsweredLaw.{AnsweredNumbers, AnsweredVerdict, count_in}
+use Rattle.history.specs.Law.{Counts, History, Verdict, knows, mask_of}
+use Rattle.history.specs.AnsweredLaw.{AnsweredNumbers, count_in}
 use Rattle.history.specs.Orders.{New}
 use Rattle.history.specs.Runs.{Heard, Latest, Nth, Until, WordCall, answer_at, event, event_of, events_of, fleet_at, register_at}
 use Rattle.history.proofs.Agreement.{Agree, agree_first, agree_later, both_after, node_of}
@@ -168,8 +169,8 @@ module _ {R : Type 0} (k : Kind R) (held : R → Type 0) (law : Lawful k held) (
       let p = and_parts (ltb (get_or t.rules r d).node (length t.nodes)) _ fits.1 in
       (ltb-true _ _ p.0, p.1)
 
-  pub verdict : (said : ℕ → Result Reply Fault) (left : List ℕ) (e : ℕ) → said e ≡ answer_at (on_words k) t f calls e → AnsweredVerdict k t f calls said left e
-  verdict said left e said-is values history s n nth r d =
+  pub verdict : (e : ℕ) → Verdict k t f calls e
+  verdict e values history s n nth r d =
       let kw = on_words k in
       let here = nth.is in
       let m = moment kw t f calls is_sound new s e here in
@@ -180,7 +181,7 @@ module _ {R : Type 0} (k : Kind R) (held : R → Type 0) (law : Lawful k held) (
       let said = (step_law k held law t is_sound s acted (own_mask kw t s acted) fits' (acting_words k held law t is_sound f new calls words s e m.act m.does) refl).broken r d in
       let rule = get_or t.rules r d in
       let own_is : drop 1 (rec (suc e) s s) ≡ own_words kw t s acted = ap (λ z. drop 1 (record_of (length t.nodes) z s)) m.becomes ∙ ap (drop 1) (step_own kw t s old fits m.act m.makes) in
-      ap (λ z. has (mask_of z) r) (said-is ∙ m.answered)
+      ap (λ z. has (mask_of z) r) m.answered
       ∙ mask_is e s m.act r
       ∙ said
       ∙ elim (cases_Bool (ltb r (length t.rules))) [

@@ -9,7 +9,8 @@ use Rattle.table.specs.Tables.{Table, sound}
 use Rattle.step.proofs.Obeying.{word_small}
 use Rattle.step.proofs.OpeningMeaning.{opened_small}
 use Rattle.step.proofs.StepMeaning.{own_small}
-use Rattle.step.specs.Logic.{Kind, Lawful, on_words}
+use Rattle.readings.specs.Kinds.{Kind, Lawful}
+use Rattle.step.specs.Nodes.{on_words}
 use Rattle.step.specs.Opening.{opened}
 use Rattle.step.specs.Records.{hand_records, newer, record_length, record_of, record_start, records_length}
 use Rattle.step.specs.StepLaws.{Words}

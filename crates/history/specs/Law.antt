@@ -4,7 +4,9 @@ use Rattle.readings.specs.Ports.{has}
 use Rattle.table.specs.Tables.{Table}
 use Rattle.table.specs.declared.fault.Fault.{Fault}
 use Rattle.table.specs.declared.node.Rule.{Rule}
-use Rattle.step.specs.Logic.{Kind, Values, on_words, none, after, Meaning}
+use Rattle.readings.specs.Kinds.{Kind}
+use Rattle.step.specs.Logic.{Values, none, after, Meaning}
+use Rattle.step.specs.Nodes.{on_words}
 use Rattle.step.specs.Opening.{start_registers}
 use Rattle.step.specs.Records.{count_of, record_of}
 use Rattle.history.specs.Calls.{Call, Fleet, Reply, block_at, ran}

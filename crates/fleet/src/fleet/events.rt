@@ -2,10 +2,10 @@
 ghost use Rattle.fleet.specs.FleetCalls.{Called};
 ghost use Rattle.fleet.specs.Shapes.{state};
 ghost use Rattle.history.specs.Calls.{receive_call, send_call, set_call};
-ghost use Rattle.step.specs.Nodes.{word_kind};
+ghost use Rattle.step.specs.Nodes.{on_words};
 ghost use Rattle.table.specs.Views.{view};
 
-use crate::blocks::{send_block, set_event, step_block};
+use crate::blocks::{send_block, step_block};
 use crate::call::{Call, Reply};
 use crate::fleet::Fleet;
 use carriers::carrier::Carrier;
@@ -25,17 +25,16 @@ impl<'a, K: Reading, C: Carrier> Fleet<'a, K, C> {
         register: u32,
         word: u32,
     ) -> Result<Reply, Fault>
-        ensures { C.sound self.old.carrier → Called K.code (word_kind K.word K.reading K.joined K.less K.inside K.equal) (view table.now) self.old.live (state memory.old hand.now (C.meaning self.old.carrier)) self.new.live (state memory.new hand.now (C.meaning self.new.carrier)) (set_call switch register word) result (C.sound self.new.carrier) }
+        ensures { C.sound self.old.carrier → Called K.CODE (on_words K.kind) (view table.now) self.old.live (state memory.old hand.now (C.meaning self.old.carrier)) self.new.live (state memory.new hand.now (C.meaning self.new.carrier)) (set_call switch register word) result (C.sound self.new.carrier) }
     {
         let call = Call::Set {
             switch,
             register,
             word,
         };
-        if let Some(reason) = self.refusal(table, memory, hand, call) {
-            return Err(Fault { reason, place: 0 });
-        }
-        let event = set_event(register, word);
+        self.admit(table, memory, hand, call)?;
+        let register = register as usize;
+        let event = Event::Set { register, word };
         let outcome = step_block::<K>(table, switch as usize, event, memory);
         Ok(Reply::of(outcome, None))
     }
@@ -48,11 +47,9 @@ impl<'a, K: Reading, C: Carrier> Fleet<'a, K, C> {
         hand: &mut [u32],
         switch: u32,
     ) -> Result<Reply, Fault>
-        ensures { C.sound self.old.carrier → Called K.code (word_kind K.word K.reading K.joined K.less K.inside K.equal) (view table.now) self.old.live (state memory.old hand.old (C.meaning self.old.carrier)) self.new.live (state memory.new hand.new (C.meaning self.new.carrier)) (send_call switch) result (C.sound self.new.carrier) }
+        ensures { C.sound self.old.carrier → Called K.CODE (on_words K.kind) (view table.now) self.old.live (state memory.old hand.old (C.meaning self.old.carrier)) self.new.live (state memory.new hand.new (C.meaning self.new.carrier)) (send_call switch) result (C.sound self.new.carrier) }
     {
-        if let Some(reason) = self.refusal(table, memory, hand, Call::Send { switch }) {
-            return Err(Fault { reason, place: 0 });
-        }
+        self.admit(table, memory, hand, Call::Send { switch })?;
         let outcome = send_block::<K>(table, switch, memory, hand);
         let number = self.carrier.put(hand)?;
         Ok(Reply::of(outcome, Some(number)))
@@ -67,12 +64,10 @@ impl<'a, K: Reading, C: Carrier> Fleet<'a, K, C> {
         switch: u32,
         number: u32,
     ) -> Result<Reply, Fault>
-        ensures { C.sound self.old.carrier → Called K.code (word_kind K.word K.reading K.joined K.less K.inside K.equal) (view table.now) self.old.live (state memory.old hand.old (C.meaning self.old.carrier)) self.new.live (state memory.new hand.new (C.meaning self.new.carrier)) (receive_call switch number) result (C.sound self.new.carrier) }
+        ensures { C.sound self.old.carrier → Called K.CODE (on_words K.kind) (view table.now) self.old.live (state memory.old hand.old (C.meaning self.old.carrier)) self.new.live (state memory.new hand.new (C.meaning self.new.carrier)) (receive_call switch number) result (C.sound self.new.carrier) }
     {
         let call = Call::Receive { switch, number };
-        if let Some(reason) = self.refusal(table, memory, hand, call) {
-            return Err(Fault { reason, place: 0 });
-        }
+        self.admit(table, memory, hand, call)?;
         self.carrier.fetch(number, hand)?;
         let event = Event::Receive { hand };
         let outcome = step_block::<K>(table, switch as usize, event, memory);

@@ -1,11 +1,11 @@
 // Opening and closing a fleet.
 ghost use Rattle.fleet.specs.Shapes.{Opened, state};
-ghost use Rattle.step.specs.Nodes.{word_kind};
+ghost use Rattle.step.specs.Nodes.{on_words};
 ghost use Rattle.table.specs.Views.{view};
 ghost use Rattle.std.specs.Prelude.{◌≡◌};
 
 use crate::blocks::open_blocks;
-use crate::fit::fits;
+use crate::fit::fit;
 use crate::fleet::Fleet;
 use carriers::carrier::Carrier;
 use readings::reading::Reading;
@@ -22,9 +22,9 @@ impl<'a, K: Reading, C: Carrier> Fleet<'a, K, C> {
         carrier: C,
     ) -> Fleet<'a, K, C>
         ensures carrier { result.carrier ≡ carrier }
-        ensures fleet { C.sound carrier → Opened K.code (word_kind K.word K.reading K.joined K.less K.inside K.equal) (view table.now) (state memory.old hand.now (C.meaning carrier)) memory.new result.live }
+        ensures fleet { C.sound carrier → Opened K.CODE (on_words K.kind) (view table.now) (state memory.old hand.now (C.meaning carrier)) memory.new result.live }
     {
-        let live = fits::<K, C>(table, memory, hand, &carrier);
+        let live = fit::<K, C>(table, memory, hand, &carrier).is_ok();
         if live {
             open_blocks::<K>(table, memory);
         }

@@ -2,7 +2,7 @@
 ghost use Rattle.fleet.specs.FleetCalls.{Called, RetiredBy};
 ghost use Rattle.fleet.specs.Shapes.{state};
 ghost use Rattle.history.specs.Calls.{retire_call};
-ghost use Rattle.step.specs.Nodes.{word_kind};
+ghost use Rattle.step.specs.Nodes.{on_words};
 ghost use Rattle.table.specs.Views.{view};
 
 use crate::call::{Call, Reply};
@@ -18,10 +18,7 @@ impl<'a, K: Reading, C: Carrier> Fleet<'a, K, C> {
         ensures { C.sound self.old.carrier → RetiredBy self.old.live (C.meaning self.old.carrier) self.new.live (C.meaning self.new.carrier) number result (C.sound self.new.carrier) }
     {
         if !self.live {
-            return Err(Fault {
-                reason: Reason::Shut,
-                place: 0,
-            });
+            return Err(Reason::Shut.at(0));
         }
         self.carrier.retire(number)
     }
@@ -34,16 +31,10 @@ impl<'a, K: Reading, C: Carrier> Fleet<'a, K, C> {
         hand: &[u32],
         copy: u32,
     ) -> Result<Reply, Fault>
-        ensures { C.sound self.old.carrier → Called K.code (word_kind K.word K.reading K.joined K.less K.inside K.equal) (view table.now) self.old.live (state memory.now hand.now (C.meaning self.old.carrier)) self.new.live (state memory.now hand.now (C.meaning self.new.carrier)) (retire_call copy) result (C.sound self.new.carrier) }
+        ensures { C.sound self.old.carrier → Called K.CODE (on_words K.kind) (view table.now) self.old.live (state memory.now hand.now (C.meaning self.old.carrier)) self.new.live (state memory.now hand.now (C.meaning self.new.carrier)) (retire_call copy) result (C.sound self.new.carrier) }
     {
-        if let Some(reason) = self.refusal(table, memory, hand, Call::Retire { number: copy }) {
-            return Err(Fault { reason, place: 0 });
-        }
+        self.admit(table, memory, hand, Call::Retire { number: copy })?;
         self.carrier.retire(copy)?;
-        Ok(Reply {
-            count: 0,
-            broken: 0,
-            number: None,
-        })
+        Ok(Reply::default())
     }
 }

@@ -6,8 +6,7 @@ ghost use Rattle.history.specs.AnsweredLaw.{AnsweredLaw};
 ghost use Rattle.history.specs.Orders.{New};
 ghost use Rattle.history.specs.Runs.{WordCall};
 ghost use Rattle.std.specs.Prelude.{OnOk};
-ghost use Rattle.step.specs.Logic.{kind_of};
-ghost use Rattle.step.specs.Nodes.{word_kind};
+ghost use Rattle.step.specs.Nodes.{on_words};
 ghost use Rattle.table.specs.Views.{view};
 
 use crate::call::{Call, Reply};
@@ -27,7 +26,7 @@ impl<'a, K: Reading, C: Carrier> Fleet<'a, K, C> {
         call: Call,
     ) -> Result<Reply, Fault>
         ensures word { WordCall (call_of call) }
-        ensures made { C.sound self.old.carrier → Called K.code (word_kind K.word K.reading K.joined K.less K.inside K.equal) (view table.now) self.old.live (state memory.old hand.old (C.meaning self.old.carrier)) self.new.live (state memory.new hand.new (C.meaning self.new.carrier)) (call_of call) result (C.sound self.new.carrier) }
+        ensures made { C.sound self.old.carrier → Called K.CODE (on_words K.kind) (view table.now) self.old.live (state memory.old hand.old (C.meaning self.old.carrier)) self.new.live (state memory.new hand.new (C.meaning self.new.carrier)) (call_of call) result (C.sound self.new.carrier) }
     {
         match call {
             Call::Set {
@@ -51,20 +50,17 @@ impl<'a, K: Reading, C: Carrier> Fleet<'a, K, C> {
         calls: &[Call],
         replies: &mut [Result<Reply, Fault>],
     ) -> Result<(), Fault>
-        ensures ran { C.sound self.old.carrier → Ran K.code (word_kind K.word K.reading K.joined K.less K.inside K.equal) (view table.now) self.old.live (state memory.old hand.old (C.meaning self.old.carrier)) self.new.live (state memory.new hand.new (C.meaning self.new.carrier)) (listed calls.now) replies.old replies.new result (C.sound self.new.carrier) }
-        ensures law { OnOk result (C.sound self.old.carrier → New (word_kind K.word K.reading K.joined K.less K.inside K.equal) (view table.now) (state memory.old hand.old (C.meaning self.old.carrier)) → AnsweredLaw (kind_of K.word K.reading K.joined K.less K.inside K.equal) (view table.now) (state memory.old hand.old (C.meaning self.old.carrier)) (listed calls.now) (said_by replies.new) memory.new) }
+        ensures ran { C.sound self.old.carrier → Ran K.CODE (on_words K.kind) (view table.now) self.old.live (state memory.old hand.old (C.meaning self.old.carrier)) self.new.live (state memory.new hand.new (C.meaning self.new.carrier)) (listed calls.now) replies.old replies.new result (C.sound self.new.carrier) }
+        ensures law { OnOk result (C.sound self.old.carrier → New (on_words K.kind) (view table.now) (state memory.old hand.old (C.meaning self.old.carrier)) → AnsweredLaw K.kind (view table.now) (state memory.old hand.old (C.meaning self.old.carrier)) (listed calls.now) (said_by replies.new) memory.new) }
     {
-        if let Some(reason) = self.unready(table, memory, hand) {
-            return Err(Fault { reason, place: 0 });
-        }
+        self.ready(table, memory, hand)?;
         if replies.len() != calls.len() {
-            return Err(Fault {
-                reason: Reason::Shape,
-                place: 0,
-            });
+            return Err(Reason::Shape.at(0));
         }
-        for i in 0..calls.len() {
-            replies[i] = self.call(table, memory, hand, calls[i]);
+        // By index: tried `iter_mut` and `zip`, in whose loop no invariant can name the replies. They are lent beside the calls,
+        // since the fleet has no heap.
+        for (i, call) in calls.iter().enumerate() {
+            replies[i] = self.call(table, memory, hand, *call);
         }
         Ok(())
     }
