@@ -7,8 +7,8 @@ use Rattle.listing.specs.EventLaws.{allowed, call_conditions, event_conditions, 
 use Rattle.listing.specs.Events.{call_at, call_size, calls_end, calls_from, count_at, events_at, most_calls, receive_at, rest_at, retire_at, send_at, set_at, unused_at}
 use Rattle.table.proofs.FirstFault.{Agrees, agrees_refusal, followed, good, bad, judgement, loop_agrees, made_of}
 use Rattle.table.specs.TableLaws.{Condition, each, first_fault, refusal}
-use Rattle.table.specs.Tables.{between, items_from}
-use Rattle.table.specs.Wire.{and_then, fault, field, refuse, word_at}
+use Rattle.table.specs.Tables.{items_from}
+use Rattle.table.specs.Wire.{and_then, fault, field, refuse, word_at, between}
 use Rattle.table.specs.declared.fault.Fault.{Fault}
 use Rattle.table.specs.declared.fault.Reason.TheVariants as why
 

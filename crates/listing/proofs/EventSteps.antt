@@ -43,7 +43,7 @@ module _ (bs : List ℕ) (at : ℕ) where
     unfolding events_at
     events_refused e h = rw (counted, h) refl
 
-    pub events_unread : (u : Stop) → Says u (calls_from bs (at + 4) count []) → Says u (events_at bs at)
+    pub events_unread : (u : Stop Fault) → Says u (calls_from bs (at + 4) count []) → Says u (events_at bs at)
     events_unread (Refused e) h = events_refused e h
     events_unread Memory h = tt
 

@@ -3,8 +3,8 @@ use Rattle.std.specs.Prelude.{◌≡◌, ℕ, ◌+◌, ◌*◌, ◌≤◌, Bool,
 use Rattle.fleet.specs.declared.call.Call.{Call}
 use Rattle.listing.specs.Events.{call_size, call_sound, calls_end, events_at, events_bytes, most_calls}
 use Rattle.table.specs.TableLaws.{Condition, each, first_fault, refusal}
-use Rattle.table.specs.Tables.{between, every}
-use Rattle.table.specs.Wire.{fault, word_at}
+use Rattle.table.specs.Tables.{every}
+use Rattle.table.specs.Wire.{fault, word_at, between}
 use Rattle.table.specs.declared.fault.Reason.TheVariants as why
 
 -- From an offset of the input on, exactly the encodings of at most most_calls calls are accepted,

@@ -1,15 +1,13 @@
 -- A rehearsal: calls on a new fleet with a carrier for 16 copies. Assumes nothing.
-use Rattle.std.specs.Prelude.{◌≡◌, ℕ, ◌+◌, ◌*◌, ◌/◌, ◌%◌, Bool, true, false, cond, List, [], ◌∷◌, length, replicate, Ok, Err, Result, ◌==◌}
-use Rattle.table.specs.Limits.{max_nodes, max_switches}
+use Rattle.std.specs.Prelude.{◌≡◌, ℕ, ◌+◌, ◌*◌, ◌/◌, ◌%◌, Bool, true, cond, List, [], ◌∷◌, length, replicate, Ok, Err, Result, ◌==◌}
 use Rattle.table.specs.Tables.{Table}
 use Rattle.table.specs.Wire.{refuse}
 use Rattle.table.specs.declared.fault.Fault.{Fault}
 use Rattle.table.specs.declared.fault.Reason.TheVariants as why
-use Rattle.step.specs.Logic.{Kind, on_words}
-use Rattle.step.specs.Nodes.{WordKind}
-use Rattle.step.specs.Records.{hand_length}
+use Rattle.readings.specs.Kinds.{Kind}
+use Rattle.step.specs.Nodes.{on_words, WordKind}
+use Rattle.step.specs.Records.{block_length, hand_length}
 use Rattle.carriers.specs.Pools.{opened}
-use Rattle.history.specs.Calls as history
 use Rattle.history.specs.Calls.{Fleet, first_memory, ran}
 use Rattle.history.specs.AnsweredLaw.{AnsweredLaw}
 use Rattle.fleet.specs.FleetCalls.{look_answer}
@@ -18,6 +16,7 @@ use Rattle.fleet.specs.Shapes.{fits, state}
 use Rattle.fleet.specs.declared.call.Call.{Call}
 use Rattle.fleet.specs.declared.call.Known.{Known}
 use Rattle.fleet.specs.declared.call.Reply.{Reply}
+use Rattle.listing.specs.declared.rehearsal.Place.{Place}
 
 abbrev pub pool_copies : ℕ
 pool_copies = 16
@@ -39,6 +38,10 @@ module _ (k : WordKind) (t : Table) where
 abbrev pub rehearsal : ℕ → WordKind → Table → List Call → Result (List (Result Reply Fault)) Fault
 rehearsal code k t calls = cond (t.code == code) (Ok (rehearsed k t calls)) (refuse why.Shut 0)
 
+-- whose entry i is
+abbrev pub place_of : Table → ℕ → Place
+place_of t i = record { switch = i / (t.switches * length t.nodes); of = i / length t.nodes % t.switches; node = i % length t.nodes }
+
 -- Entry i of what the switches know, each node of each switch at each switch: what a look answers, or else x
 
 abbrev pub found_or : Known → Result Known Fault → Known
@@ -58,10 +61,6 @@ looks_from live code t f i (x ∷ xs) = look_entry live code t f i x ∷ looks_f
 abbrev pub entry_count : Table → ℕ
 entry_count t = t.switches * t.switches * length t.nodes
 
--- and at most
-abbrev pub most_entries : ℕ
-most_entries = max_switches * max_switches * max_nodes
-
 abbrev pub unknown : Known
 unknown = record { count = 0; word = 0 }
 
@@ -69,20 +68,28 @@ unknown = record { count = 0; word = 0 }
 abbrev pub known_after : ℕ → WordKind → Table → List Call → Bool → List Known
 known_after code k t calls asked = looks_from true code t (ran k t (new_fleet k t) (listed calls)) 0 (replicate (cond asked (entry_count t) 0) unknown)
 
--- What a run on a fleet that is opened for it does, and what the looks after it find
-pub record Rehearses (code : ℕ) (k : WordKind) (t : Table) (before : Fleet) (calls : List history.Call) (old new : List (Result Reply Fault)) (unlooked looked : List Known) (r : Result (Unit {0}) Fault) : Type 0 where
-  -- where everything fits
-  pub well : fits code t before ≡ true → length old ≡ length calls → (r ≡ Ok tt) × (new ≡ answers k t (state (first_memory k t) before.hand before.carrier) calls)
-  pub looks : fits code t before ≡ true → length old ≡ length calls → looked ≡ looks_from true code t (ran k t (state (first_memory k t) before.hand before.carrier) calls) 0 unlooked
-  -- and where it does not
-  pub shut : fits code t before ≡ false → r ≡ refuse why.Shut 0
+-- Memory and hand for a fleet that is not yet open: of the table's lengths, and the hand zero
+pub record StartsAs (t : Table) (memory hand : List ℕ) : Type 0 where
+  pub long : length memory ≡ t.switches * block_length t.switches (length t.nodes)
+  pub zero : hand ≡ replicate (hand_length t.switches (length t.nodes)) 0
 
--- The law of a run on a fleet that is opened for it, where everything fits: of the replies, and the memory after the calls
-abbrev pub RunLaw : {R : Type 0} → ℕ → Kind R → Table → Fleet → List history.Call → List (Result Reply Fault) → Type 0
-RunLaw code k t before calls replies =
-    fits code t before ≡ true
-    → AnsweredLaw k t (state (first_memory (on_words k) t) before.hand before.carrier) calls (said_by replies)
-    (ran (on_words k) t (state (first_memory (on_words k) t) before.hand before.carrier) calls).memory
+-- A run on a fleet that is opened for it, where everything fits: the fleet as it starts,
+abbrev pub started : WordKind → Table → Fleet → Fleet
+started k t before = state (first_memory k t) before.hand before.carrier
+
+-- what the calls answer, or that the fleet is shut,
+abbrev pub run_answers : ℕ → WordKind → Table → Fleet → List Call → Result (List (Result Reply Fault)) Fault
+run_answers code k t before calls = cond (fits code t before) (Ok (answers k t (started k t before) (listed calls))) (refuse why.Shut 0)
+
+-- what the switches know after the calls, where that is asked for,
+abbrev pub known_after_run : ℕ → WordKind → Table → Fleet → List Call → Bool → List Known
+known_after_run code k t before calls asked = looks_from true code t (ran k t (started k t before) (listed calls)) 0 (replicate (cond asked (entry_count t) 0) unknown)
+
+-- and the law of the replies and of the memory after the calls
+abbrev pub RunLaw : {R : Type 0} → Kind R → Table → Fleet → List Call → List (Result Reply Fault) → Type 0
+RunLaw k t before calls replies =
+    AnsweredLaw k t (started (on_words k) t before) (listed calls) (said_by replies)
+    (ran (on_words k) t (started (on_words k) t before) (listed calls)).memory
 
 -- The law of a rehearsal
 abbrev pub RehearsalLaw : {R : Type 0} → Kind R → Table → List Call → List (Result Reply Fault) → Type 0

@@ -3,8 +3,8 @@ use Rattle.std.specs.Prelude.{ℕ, ◌+◌, List, [], ◌∷◌, ◌++◌, Some,
 use Rattle.fleet.specs.declared.call.Call.{Call}
 use Rattle.fleet.specs.declared.call.Call.TheVariants.{Set, Send, Receive, Retire}
 use Rattle.fleet.specs.declared.call.Reply.{Reply}
-use Rattle.listing.specs.declared.text.Part.{Part}
-use Rattle.listing.specs.declared.text.Part.TheVariants.{Table, Events}
+use Rattle.listing.specs.declared.text.Refusal.{Refusal}
+use Rattle.listing.specs.declared.text.Refusal.TheVariants.{Table, Events}
 use Rattle.table.specs.Refusals.{number}
 use Rattle.table.specs.declared.fault.Fault.{Fault}
 
@@ -49,10 +49,10 @@ heading = codes "line switch count broken number"
 abbrev pub listing_text : List Call → List (Result Reply Fault) → List ℕ
 listing_text cs rs = (heading ++ newline) ++ lines_from 1 cs rs
 
-abbrev pub part_name : Part → List ℕ
-part_name Table = codes "table"
-part_name Events = codes "events"
+-- what is printed of a part of the input that is refused
+abbrev pub part_text : List ℕ → Fault → List ℕ
+part_text part e = part ++ (codes " refused " ++ (decimal (number e.reason) ++ (codes " " ++ decimal e.place)))
 
--- what is printed of an input that is refused
-abbrev pub refusal_text : Part → Fault → List ℕ
-refusal_text part e = part_name part ++ (codes " refused " ++ (decimal (number e.reason) ++ (codes " " ++ decimal e.place)))
+abbrev pub refusal_text : Refusal → List ℕ
+refusal_text (Table e) = part_text (codes "table") e
+refusal_text (Events e) = part_text (codes "events") e

@@ -4,44 +4,49 @@ ghost use Rattle.listing.specs.EventLaws.{EventLaws};
 ghost use Rattle.listing.specs.Events.{call_at, call_size, calls_from, count_at, events_at, most_calls, receive_at, retire_at, send_at, set_at, unused_at};
 ghost use Rattle.listing.specs.Stops.{Gives};
 ghost use Rattle.table.specs.Readers.{Advanced};
-ghost use Rattle.table.specs.Wire.{fault};
 ghost use Rattle.table.specs.declared.fault.Reason.TheVariants.{Events};
 
 use crate::stop::Stop;
 use fleet::call::Call;
 use std::alloc::Global;
 use table::fault::{Fault, Reason};
-use table::reader::Reader;
+use table::reader::{Reader, Refusals};
 
 // As many calls as a rehearsal file can have.
 pub const MAX_CALLS: u32 = 1024;
 
-// The bytes at `at` are not those of calls.
-fn no_events(at: usize) -> Fault
-    ensures { result ≡ fault Events at }
-{
-    Fault {
-        reason: Reason::Events,
-        place: at,
+// Why a reader of a rehearsal's calls refuses. A type of its own, so that no function has to ask which reason its reader has.
+#[derive(Drop)]
+struct EventRefusals;
+
+impl Refusals for EventRefusals {
+    ghost short = { λ _. Events };
+
+    ghost wrong = { λ _. Events };
+
+    fn short(&self) -> Reason {
+        Reason::Events
+    }
+
+    fn wrong(&self) -> Reason {
+        Reason::Events
     }
 }
 
+type EventReader<'a> = Reader<'a, EventRefusals>;
+
 // Reads past a word that the call does not use.
-fn read_unused(reader: &mut Reader) -> Result<(), Fault>
-    requires { reader.old.short ≡ Events }
+#[tactic(auto, unfolding(crate::specs::Events::unused_at, table::specs::Wire::tested_field))]
+fn read_unused(reader: &mut EventReader) -> Result<(), Fault>
     ensures value { result ≡ unused_at reader.old.bytes.now reader.old.at }
     ensures reader { Advanced reader.old reader.new (is_ok result) 4 }
 {
-    let at = reader.offset();
-    if reader.field()? != 0 {
-        return Err(no_events(at));
-    }
+    reader.field_between(0, 0)?;
     Ok(())
 }
 
 // A set, of which the operation has been read.
-fn read_set(reader: &mut Reader) -> Result<Call, Fault>
-    requires { reader.old.short ≡ Events }
+fn read_set(reader: &mut EventReader) -> Result<Call, Fault>
     ensures value { result ≡ set_at reader.old.bytes.now reader.old.at }
     ensures reader { Advanced reader.old reader.new (is_ok result) 12 }
 {
@@ -56,8 +61,7 @@ fn read_set(reader: &mut Reader) -> Result<Call, Fault>
 }
 
 // A send, likewise.
-fn read_send(reader: &mut Reader) -> Result<Call, Fault>
-    requires { reader.old.short ≡ Events }
+fn read_send(reader: &mut EventReader) -> Result<Call, Fault>
     ensures value { result ≡ send_at reader.old.bytes.now reader.old.at }
     ensures reader { Advanced reader.old reader.new (is_ok result) 12 }
 {
@@ -68,8 +72,7 @@ fn read_send(reader: &mut Reader) -> Result<Call, Fault>
 }
 
 // A receive, likewise.
-fn read_receive(reader: &mut Reader) -> Result<Call, Fault>
-    requires { reader.old.short ≡ Events }
+fn read_receive(reader: &mut EventReader) -> Result<Call, Fault>
     ensures value { result ≡ receive_at reader.old.bytes.now reader.old.at }
     ensures reader { Advanced reader.old reader.new (is_ok result) 12 }
 {
@@ -80,8 +83,7 @@ fn read_receive(reader: &mut Reader) -> Result<Call, Fault>
 }
 
 // A retire, likewise.
-fn read_retire(reader: &mut Reader) -> Result<Call, Fault>
-    requires { reader.old.short ≡ Events }
+fn read_retire(reader: &mut EventReader) -> Result<Call, Fault>
     ensures value { result ≡ retire_at reader.old.bytes.now reader.old.at }
     ensures reader { Advanced reader.old reader.new (is_ok result) 12 }
 {
@@ -92,8 +94,7 @@ fn read_retire(reader: &mut Reader) -> Result<Call, Fault>
 }
 
 // The next call.
-fn read_call(reader: &mut Reader) -> Result<Call, Fault>
-    requires { reader.old.short ≡ Events }
+fn read_call(reader: &mut EventReader) -> Result<Call, Fault>
     ensures value { result ≡ call_at reader.old.bytes.now reader.old.at }
     ensures reader { Advanced reader.old reader.new (is_ok result) call_size }
 {
@@ -103,28 +104,22 @@ fn read_call(reader: &mut Reader) -> Result<Call, Fault>
         2 => read_send(reader),
         3 => read_receive(reader),
         4 => read_retire(reader),
-        _ => Err(no_events(at)),
+        _ => Err(Reason::Events.at(at)),
     }
 }
 
 // The number of calls.
-fn read_count(reader: &mut Reader) -> Result<usize, Fault>
-    requires { reader.old.short ≡ Events }
+#[tactic(auto, unfolding(crate::specs::Events::count_at, table::specs::Wire::tested_field))]
+fn read_count(reader: &mut EventReader) -> Result<usize, Fault>
     ensures value { result ≡ count_at reader.old.bytes.now reader.old.at }
     ensures few { IfOk result (λ count. count ≤ most_calls) }
     ensures reader { Advanced reader.old reader.new (is_ok result) 4 }
 {
-    let at = reader.offset();
-    let count = reader.field()?;
-    if count > MAX_CALLS {
-        return Err(no_events(at));
-    }
-    Ok(count as usize)
+    Ok(reader.field_between(0, MAX_CALLS)? as usize)
 }
 
 // The next `count` calls.
-fn read_calls(heap: Global, reader: &mut Reader, count: usize) -> Result<Vec<Call>, Stop>
-    requires { reader.old.short ≡ Events }
+fn read_calls(heap: Global, reader: &mut EventReader, count: usize) -> Result<Vec<Call>, Stop>
     ensures value { Gives vec_items result (calls_from reader.old.bytes.now reader.old.at count []) }
     ensures reader { Advanced reader.old reader.new (is_ok result) (count * call_size) }
 {
@@ -140,13 +135,13 @@ pub fn read_events(heap: Global, bytes: &[u8], at: usize) -> Result<Vec<Call>, S
     ensures value { Gives vec_items result (events_at bytes.now at) }
     ensures laws { EventLaws bytes.now at }
 {
-    let mut reader = Reader::new(bytes, Reason::Events);
+    let mut reader = Reader::new(bytes, EventRefusals);
     reader.move_to(at)?;
     let count = read_count(&mut reader)?;
     let calls = read_calls(heap, &mut reader, count)?;
     let end = reader.offset();
     if end != bytes.len() {
-        return Err(Stop::Refused(no_events(end)));
+        return Err(Stop::Refused(Reason::Events.at(end)));
     }
     Ok(calls)
 }

@@ -3,6 +3,7 @@ ghost use Rattle.listing.specs.Knowledge.{entry_of, entry_text, knowledge_text};
 ghost use Rattle.std.specs.Prelude.{◌≡◌, ◌++◌, IfOk, Some, string_bytes, OnOk};
 ghost use Rattle.table.specs.Views.{view};
 
+use crate::rehearsal::Place;
 use fleet::call::Known;
 use std::alloc::{AllocError, Global};
 use std::fmt;
@@ -27,13 +28,12 @@ impl Entry {
     fn new(table: &Checked, i: usize, known: Known) -> Entry
         ensures { result ≡ entry_of (view table.now) i known }
     {
-        let switches = table.switches();
-        let nodes = table.nodes().len();
+        let Place { switch, of, node } = Place::of_entry(table, i);
         Entry {
-            switch: i / (switches * nodes),
-            of: i / nodes % switches,
-            first: i % nodes == 0,
-            last: i % nodes + 1 == nodes,
+            switch,
+            of,
+            first: node == 0,
+            last: node + 1 == table.nodes().len(),
             known,
         }
     }
@@ -43,25 +43,23 @@ impl fmt::Display for Entry {
     ghost output = { λ e. Some (entry_text e) };
 
     fn fmt<W: fmt::Write>(&self, f: &mut fmt::Formatter<W>) -> fmt::Result {
-        let switch = self.switch;
-        let of = self.of;
-        let count = self.known.count;
-        let word = self.known.word;
-        match (self.first, self.last) {
-            (true, true) => write!(f, "{switch} {of} {count} {word}\n"),
-            (true, false) => write!(f, "{switch} {of} {count} {word}"),
-            (false, true) => write!(f, " {word}\n"),
-            (false, false) => write!(f, " {word}"),
+        let Known { count, word } = self.known;
+        if self.first {
+            write!(f, "{} {} {count}", self.switch, self.of)?;
         }
+        write!(f, " {word}")?;
+        if self.last {
+            write!(f, "\n")?;
+        }
+        Ok(())
     }
 }
 
 // Writes an entry to the end of a text.
-fn push_entry(heap: Global, text: &mut String, entry: Entry) -> Result<(), AllocError>
+fn push_entry(text: &mut String, entry: Entry) -> Result<(), AllocError>
     ensures { OnOk result (string_bytes text.new ≡ string_bytes text.old ++ entry_text entry) }
 {
-    let written = format!(in heap; "{entry}")?;
-    text.push_str(written.as_str())
+    write!(text, "{entry}")
 }
 
 // What each switch knows of each, a line for each pair: switch, of which, count, and the words of the nodes. `known`
@@ -70,8 +68,8 @@ pub fn knowledge(heap: Global, table: &Checked, known: &[Known]) -> Result<Strin
     ensures { IfOk result (λ s. string_bytes s ≡ knowledge_text (view table.now) known.now) }
 {
     let mut text = String::from_str(heap, HEADING)?;
-    for i in 0..known.len() {
-        push_entry(heap, &mut text, Entry::new(table, i, known[i]))?;
+    for (i, known) in known.iter().enumerate() {
+        push_entry(&mut text, Entry::new(table, i, *known))?;
     }
     Ok(text)
 }

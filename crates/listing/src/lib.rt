@@ -6,4 +6,6 @@ pub mod knowledge;
 pub mod output;
 pub mod rehearsal;
 pub mod stop;
+#[cfg(test)]
+mod tests;
 pub mod text;

@@ -2,13 +2,13 @@
 ghost use Rattle.listing.specs.declared.stop.Stop.TheVariants.{Memory, Refused};
 ghost use Rattle.std.specs.Prelude.{◌≡◌};
 
-use std::alloc;
-use std::alloc::AllocError;
+use crate::text::Refusal;
+use std::alloc::{AllocError, AllocFailed};
 use table::fault::Fault;
 
-#[derive(Clone, Copy)]
-pub enum Stop {
-    Refused(Fault),
+#[derive(Clone, Copy, Debug, PartialEq)]
+pub enum Stop<R = Fault> {
+    Refused(R),
     // There is no memory for the answer.
     Memory,
 }
@@ -21,18 +21,26 @@ impl From<Fault> for Stop {
     }
 }
 
-impl From<AllocError> for Stop {
+impl From<Refusal> for Stop<Refusal> {
+    ghost from_gives = { λ e r. r ≡ Refused e };
+
+    fn from(refusal: Refusal) -> Stop<Refusal> {
+        Stop::Refused(refusal)
+    }
+}
+
+impl<R> From<AllocError> for Stop<R> {
     ghost from_gives = { λ _ r. r ≡ Memory };
 
-    fn from(_error: AllocError) -> Stop {
+    fn from(_error: AllocError) -> Stop<R> {
         Stop::Memory
     }
 }
 
-impl<T: Drop> From<alloc::AllocFailed<T>> for Stop {
+impl<R, T: Drop> From<AllocFailed<T>> for Stop<R> {
     ghost from_gives = { λ _ r. r ≡ Memory };
 
-    fn from(_refused: alloc::AllocFailed<T>) -> Stop {
+    fn from(_refused: AllocFailed<T>) -> Stop<R> {
         Stop::Memory
     }
 }

@@ -10,7 +10,7 @@ returns-in_err-read_call c =
     let bs = c.args.reader.now.bytes.now in
     let reads : call_at bs c.loop-i.reader.at ≡ Err c.in_err-read_call.field-0.0 = search rules in
     rw (p.1, p.2) (record {
-      value = sym c.loop-i.invariant.3 ∙ items_stop (λ at earlier. call_at bs at) call_size c.loop-i.reader.at c.loop-i._i c.args.count _ _ c.loop-i-test.true reads;
+      value = sym c.loop-i.invariant.2 ∙ items_stop (λ at earlier. call_at bs at) call_size c.loop-i.reader.at c.loop-i._i c.args.count _ _ c.loop-i-test.true reads;
       reader = search rules;
     })
 
@@ -22,13 +22,12 @@ loop-i-preserved c =
     let moved : c.read_call.new.reader.at ≡ c.loop-i.reader.at + call_size = c.read_call.ensures.reader.at well in
     let pushed : vec_items c.push.new.self ≡ vec_items c.loop-i.calls ++ c.in_ok-read_call.field-0 ∷ [] = c.in_ok-push.ensures.items in (
       search rules,
-      search rules,
       omega arith,
-      rw (moved, pushed) (sym (items_more (λ at earlier. call_at bs at) call_size c.loop-i.reader.at c.loop-i._i c.args.count _ _ c.loop-i-test.true reads) ∙ c.loop-i.invariant.3),
+      rw (moved, pushed) (sym (items_more (λ at earlier. call_at bs at) call_size c.loop-i.reader.at c.loop-i._i c.args.count _ _ c.loop-i-test.true reads) ∙ c.loop-i.invariant.2),
     )
 
 pub returns : goal.returns
 returns c = record {
-  value = sym c.loop-i.invariant.3 ∙ items_done (λ at earlier. call_at c.args.reader.now.bytes.now at) call_size c.loop-i.reader.at c.loop-i._i c.args.count _ c.loop-i-test.false;
+  value = sym c.loop-i.invariant.2 ∙ items_done (λ at earlier. call_at c.args.reader.now.bytes.now at) call_size c.loop-i.reader.at c.loop-i._i c.args.count _ c.loop-i-test.false;
   reader = search rules;
 }

@@ -33,7 +33,7 @@ returns-then-end-bytes c =
     let reads : calls_from c.args.bytes.now (c.args.at + 4) c.in_ok-count.count [] ≡ Ok (vec_items c.in_ok-calls.calls) = search rules in
     let ends : c.offset-end.result ≡ calls_end c.args.at c.in_ok-count.count = search rules in
     let left : calls_end c.args.at c.in_ok-count.count ≡ length c.args.bytes.now → ⊥ = λ e. c.if-end-bytes.true (ends ∙ e) in
-    record { value = events_left _ _ _ counts _ reads left ∙ ap Err (ap (fault Events) (sym ends) ∙ sym c.no_events.ensures); laws = event_laws _ _ (slice_bytes _ c.type_inv.bytes) }
+    record { value = events_left _ _ _ counts _ reads left ∙ ap Err (ap (fault Events) (sym ends) ∙ sym c.at.ensures); laws = event_laws _ _ (slice_bytes _ c.type_inv.bytes) }
 
 pub returns : goal.returns
 returns c =

@@ -1,7 +1,7 @@
-use Rattle.std.proofs.Common.{◌*◌, ◌%◌, ◌<◌, length, sym, ap, subst, mod-lt, arith}
+use Rattle.std.proofs.Common.{◌*◌, ◌%◌, ◌<◌, length, sym, ap, subst, mod-lt}
 use Rattle.table.specs.Views.{view}
 use Rattle.listing.proofs.LookSteps.{some_nodes, some_pairs, some_switches}
-use Rattle.listing.proofs.knowledge.Entry.new.Goals as goal
+use Rattle.listing.proofs.rehearsal.Place.of_entry.Goals as goal
 
 pub nonzero_div-result : goal.nonzero_div-result
 nonzero_div-result c =
@@ -17,11 +17,7 @@ nonzero_rem-result c = subst (λ n. 0 < n) (sym c.switches-switches.ensures.valu
 pub nonzero_rem-result-2 : goal.nonzero_rem-result-2
 nonzero_rem-result-2 c = subst (λ xs. 0 < length xs) (sym c.nodes-nodes.ensures.value) (some_nodes (view c.args.table.now) c.args.table.now.fit)
 
-pub nonzero_rem-result-3 : goal.nonzero_rem-result-3
-nonzero_rem-result-3 c = subst (λ xs. 0 < length xs) (sym c.nodes-nodes.ensures.value) (some_nodes (view c.args.table.now) c.args.table.now.fit)
-
-pub overflow_add-result : goal.overflow_add-result
-overflow_add-result c =
-    let some : 0 < length c.nodes-nodes.result.now = subst (λ xs. 0 < length xs) (sym c.nodes-nodes.ensures.value) (some_nodes (view c.args.table.now) c.args.table.now.fit) in
-    let below : c.args.i % length c.nodes-nodes.result.now < length c.nodes-nodes.result.now = mod-lt c.args.i some in
-    omega (arith, c.nodes-nodes.ensures.few)
+pub returns-clause-node : goal.returns-clause-node
+returns-clause-node c =
+    subst (λ xs. c.args.i % length xs < length (view c.args.table.now).nodes) (sym c.nodes-nodes.ensures.value)
+    (mod-lt c.args.i (some_nodes (view c.args.table.now) c.args.table.now.fit))
