@@ -8,7 +8,7 @@ use Rattle.inspect.specs.Forms.{Deep, form_at, body_text, form_text, formula_tex
 use Rattle.inspect.specs.declared.formula.Form.{Form}
 use Rattle.inspect.specs.declared.formula.Form.TheVariants as form
 use Rattle.inspect.specs.declared.formula.Strength.{Strength}
-use Rattle.inspect.proofs.Writing.{put_is, put_more}
+use Rattle.std.proofs.Output.{has_written_append, has_written_of_eq}
 
 -- a form that may have no operands is written alike, whatever its operands would be
 no_parts : (k : Kind) (x : Form) (around : Strength) (p q : ℕ → Strength → List ℕ) → Deep x 0 → form_text k x around p ≡ form_text k x around q
@@ -35,8 +35,8 @@ text_at k nodes (suc d) n around x e deep =
     ∙ ap (λ (y : Form). form_text k y around (λ a s. formula_text k nodes d a s)) e
 
 -- the texts around the operands, joined as they are written
-pub prefixed : (word word' t t' : List ℕ) → word ≡ word' → t ≡ t' → (word ++ codes " ") ++ t ≡ word' ++ (codes " " ++ t')
-prefixed word word' t t' p q = append_assoc word (codes " ") t ∙ (λ i. p i ++ (codes " " ++ q i))
+pub prefixed : (word t t' : List ℕ) → t ≡ t' → (word ++ codes " ") ++ t ≡ word ++ (codes " " ++ t')
+prefixed word t t' q = append_assoc word (codes " ") t ∙ (λ i. word ++ (codes " " ++ q i))
 
 pub infixed : (a a' word word' b b' : List ℕ) → a ≡ a' → word ≡ word' → b ≡ b'
     → a ++ ((codes " " ++ (word ++ codes " ")) ++ b) ≡ a' ++ (codes " " ++ (word' ++ (codes " " ++ b')))
@@ -52,7 +52,7 @@ module _ {W : Type 0} (took : W → List ℕ → W → Type 0) where
       → HasWritten took f (body_text k y part) h → HasWritten took f (body_text k x part) g
   placed k part x y f g h e same put =
       let P : Formatter W → Type 0 = λ v. HasWritten took f (body_text k x part) v in
-      subst P (sym same) (put_is took f (body_text k y part) (body_text k x part) h (ap (λ (v : Form). body_text k v part) (sym e)) put)
+      subst P (sym same) (has_written_of_eq took f (body_text k y part) (body_text k x part) h (ap (λ (v : Form). body_text k v part) (sym e)) put)
 
   -- the parentheses, if any, around the body
   pub assembled : (k : Kind) (nodes : List Node) (d n : ℕ) (around : Strength) (x : Form) (b : Bool) (f₀ f₁ f₂ f₃ : Formatter W)
@@ -61,6 +61,6 @@ module _ {W : Type 0} (took : W → List ℕ → W → Type 0) where
       → HasWritten took f₀ (formula_text k nodes d n around) f₃
   assembled k nodes d n around x b f₀ f₁ f₂ f₃ e deep tested opened body closed =
       let middle = body_text k x (operand_text k nodes d) in
-      put_is took f₀ (opening b ++ (middle ++ closing b)) (formula_text k nodes d n around) f₃
+      has_written_of_eq took f₀ (opening b ++ (middle ++ closing b)) (formula_text k nodes d n around) f₃
       (ap (λ (v : Bool). opening v ++ (middle ++ closing v)) tested ∙ text_at k nodes d n around x e deep)
-      (put_more took f₀ (opening b) f₁ (middle ++ closing b) f₃ opened (put_more took f₁ middle f₂ (closing b) f₃ body closed))
+      (has_written_append took f₀ (opening b) f₁ (middle ++ closing b) f₃ opened (has_written_append took f₁ middle f₂ (closing b) f₃ body closed))

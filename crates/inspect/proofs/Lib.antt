@@ -1,4 +1,2 @@
 pub mod Formulas
-pub mod Openings
 pub mod PortSteps
-pub mod Writing

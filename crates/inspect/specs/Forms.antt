@@ -113,11 +113,15 @@ rank_of Sum = 3
 rank_of Tight = 4
 rank_of Leaf = 5
 
+-- a parenthesis, if the form is in parentheses
+abbrev pub bracket_text : Bool → List ℕ → List ℕ
+bracket_text b bracket = cond b bracket []
+
 abbrev pub opening : Bool → List ℕ
-opening b = cond b (codes "(") []
+opening b = bracket_text b (codes "(")
 
 abbrev pub closing : Bool → List ℕ
-closing b = cond b (codes ")") []
+closing b = bracket_text b (codes ")")
 
 -- what stands between the parentheses; part writes an operand within a form of a strength
 abbrev pub body_text : Kind → Form → (ℕ → Strength → List ℕ) → List ℕ

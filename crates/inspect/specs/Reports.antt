@@ -5,7 +5,7 @@ use Rattle.table.specs.Refusals.{number}
 use Rattle.table.specs.Tables.{Table, table_length}
 use Rattle.table.specs.declared.fault.Fault.{Fault}
 use Rattle.table.specs.declared.fault.Reason.{Reason}
-use Rattle.table.specs.declared.fault.Reason.TheVariants.{TableLength, TableField, Node, Rule, Shape, Shut, Switch, Operand, Full, NotHeld, Count, Copy, Events}
+use Rattle.table.specs.declared.fault.Reason.TheVariants.{TableLength, TableField, Node, Rule}
 use Rattle.table.specs.declared.kind.Kind.{Kind}
 use Rattle.table.specs.declared.kind.Kind.TheVariants.{Numbers, Ports}
 
@@ -45,15 +45,7 @@ subject TableLength = codes "the table ends before the field at byte"
 subject TableField = codes "the field at byte"
 subject Node = codes "node"
 subject Rule = codes "rule"
-subject Shape = codes "place"
-subject Shut = codes "place"
-subject Switch = codes "place"
-subject Operand = codes "place"
-subject Full = codes "place"
-subject NotHeld = codes "place"
-subject Count = codes "place"
-subject Copy = codes "place"
-subject Events = codes "place"
+subject _ = codes "place"
 
 -- what is wrong there, in the words after it
 abbrev pub complaint : Reason → List ℕ
@@ -61,15 +53,7 @@ complaint TableLength = codes ", or has bytes left from there"
 complaint TableField = codes " is out of range or names a foreign kind"
 complaint Node = codes " is not allowed: its kind, a switch, a register or a node that it names"
 complaint Rule = codes " names a switch that the table lacks, or a node that is no truth node"
-complaint Shape = codes " is refused"
-complaint Shut = codes " is refused"
-complaint Switch = codes " is refused"
-complaint Operand = codes " is refused"
-complaint Full = codes " is refused"
-complaint NotHeld = codes " is refused"
-complaint Count = codes " is refused"
-complaint Copy = codes " is refused"
-complaint Events = codes " is refused"
+complaint _ = codes " is refused"
 
 abbrev pub refusal_text : Fault → List ℕ
 refusal_text e =

@@ -3,10 +3,10 @@
 // Truths are written `not a`, `a and b`, `a or b`, `a implies b`, `a iff b`, `previously a`, `once a`, `always a`, `a since b`
 // and `a at switch s`. Numbers are joined and cut by `a + b` and `a - b` and compared by `a <= b` and `a = b`;
 // port sets by `a union b`, `a minus b`, `a within b` and `a = b`.
-ghost use Rattle.inspect.specs.Forms.{prefix_word, infix_word, infix_strength, form_of, form_strength, is_leaf, form_at, Deep, rank_of, opening, closing, formula_text};
+ghost use Rattle.inspect.specs.Forms.{prefix_word, infix_word, infix_strength, form_of, form_strength, is_leaf, form_at, Deep, rank_of, bracket_text, formula_text};
 ghost use Rattle.inspect.specs.declared.formula.Strength.TheVariants.{Whole};
 ghost use Rattle.std.specs.Fmt.{WritesOnOk};
-ghost use Rattle.std.specs.Prelude.{◌≡◌, ◌-◌, Some};
+ghost use Rattle.std.specs.Prelude.{◌≡◌, ◌-◌, Some, nat_le};
 
 use crate::value::Value;
 use std::fmt;
@@ -52,7 +52,7 @@ pub enum Form {
 
 // How tightly a form holds its operands together. An operand that does so no tighter than the form around it stands in
 // parentheses.
-#[derive(Clone, Copy, Debug, PartialEq)]
+#[derive(Clone, Copy, Debug, PartialEq, Eq, PartialOrd, Ord)]
 pub enum Strength {
     Whole,
     Connective,
@@ -63,34 +63,29 @@ pub enum Strength {
 }
 
 impl Strength {
-    fn rank(self) -> u8
-        ensures { result ≡ rank_of self }
+    // Whether a form of this strength stands in parentheses within one of the strength `around`.
+    fn is_bracketed(self, around: Strength) -> bool
+        ensures { result ≡ nat_le (rank_of self) (rank_of around) }
     {
-        match self {
-            Strength::Whole => 0,
-            Strength::Connective => 1,
-            Strength::Comparison => 2,
-            Strength::Sum => 3,
-            Strength::Tight => 4,
-            Strength::Leaf => 5,
-        }
+        self <= around
     }
 }
 
-impl Prefix {
-    pub fn word(self) -> &'static str
-        ensures { result.now ≡ prefix_word self }
-    {
-        match self {
+impl fmt::Display for Prefix {
+    ghost output = { λ x. Some (prefix_word x) };
+
+    fn fmt<W: fmt::Write>(&self, f: &mut fmt::Formatter<W>) -> fmt::Result {
+        f.write_str(match self {
             Prefix::Not => "not",
             Prefix::Previously => "previously",
             Prefix::Once => "once",
             Prefix::Always => "always",
-        }
+        })
     }
 }
 
 impl Infix {
+    // No `Display`, which has no place for the kind.
     pub fn word(self, kind: Kind) -> &'static str
         ensures { result.now ≡ infix_word self kind }
     {
@@ -123,10 +118,10 @@ impl Infix {
     }
 }
 
-impl Form {
-    pub fn of(node: Node) -> Form
-        ensures { result ≡ form_of node }
-    {
+impl From<Node> for Form {
+    ghost from_gives = { λ node form. form ≡ form_of node };
+
+    fn from(node: Node) -> Form {
         match node {
             Node::Truth(value) => Form::Truth(value),
             Node::Not(a) => Form::Prefix(Prefix::Not, a),
@@ -148,7 +143,9 @@ impl Form {
             Node::ReadingAt(switch, a) => Form::At(a, switch),
         }
     }
+}
 
+impl Form {
     pub fn strength(self) -> Strength
         ensures { result ≡ form_strength self }
     {
@@ -187,10 +184,10 @@ impl<'a> Formula<'a> {
         ensures value { result ≡ form_at self.entry.nodes.now self.entry.node self.entry.depth }
         ensures deep { Deep result self.entry.depth }
     {
-        if self.node >= self.nodes.len() {
+        let Some(node) = self.nodes.get(self.node) else {
             return Form::Name(self.node);
-        }
-        let form = Form::of(self.nodes[self.node]);
+        };
+        let form = Form::from(*node);
         if self.depth == 0 && !form.is_leaf() {
             Form::Name(self.node)
         } else {
@@ -206,25 +203,22 @@ impl<'a> Formula<'a> {
         ensures depth { result.depth ≡ self.entry.depth - 1 }
     {
         Formula {
-            kind: self.kind,
-            nodes: self.nodes,
             node,
             depth: self.depth.saturating_sub(1),
+            ..self
         }
     }
 }
 
 // Writes a parenthesis where the formula is in parentheses.
-fn write_opening<W: fmt::Write>(bracketed: bool, f: &mut fmt::Formatter<W>) -> fmt::Result
-    ensures { WritesOnOk W.write_str_gives f.old result (opening bracketed) f.new }
+fn write_bracket<W: fmt::Write>(
+    bracketed: bool,
+    bracket: &str,
+    f: &mut fmt::Formatter<W>,
+) -> fmt::Result
+    ensures { WritesOnOk W.write_str_gives f.old result (bracket_text bracketed bracket.now) f.new }
 {
-    f.write_str(if bracketed { "(" } else { "" })
-}
-
-fn write_closing<W: fmt::Write>(bracketed: bool, f: &mut fmt::Formatter<W>) -> fmt::Result
-    ensures { WritesOnOk W.write_str_gives f.old result (closing bracketed) f.new }
-{
-    f.write_str(if bracketed { ")" } else { "" })
+    f.write_str(if bracketed { bracket } else { "" })
 }
 
 // Writes a formula that stands within a form of the strength `around`.
@@ -238,8 +232,8 @@ fn show<W: fmt::Write>(
     let kind = formula.kind;
     let form = formula.form();
     let strength = form.strength();
-    let bracketed = strength.rank() <= around.rank();
-    write_opening(bracketed, f)?;
+    let bracketed = strength.is_bracketed(around);
+    write_bracket(bracketed, "(", f)?;
     match form {
         Form::Truth(value) => write!(f, "{value}")?,
         Form::Register(register) => write!(f, "register {register}")?,
@@ -249,8 +243,7 @@ fn show<W: fmt::Write>(
         }
         Form::Name(node) => write!(f, "n{node}")?,
         Form::Prefix(prefix, a) => {
-            let word = prefix.word();
-            write!(f, "{word} ")?;
+            write!(f, "{prefix} ")?;
             show(formula.operand(a), strength, f)?;
         }
         Form::Infix(infix, a, b) => {
@@ -264,7 +257,7 @@ fn show<W: fmt::Write>(
             write!(f, " at switch {switch}")?;
         }
     }
-    write_closing(bracketed, f)
+    write_bracket(bracketed, ")", f)
 }
 
 impl fmt::Display for Formula<'_> {

@@ -6,53 +6,26 @@ ghost use Rattle.step.specs.StepLaws.{record_words};
 ghost use Rattle.step.specs.Steps.{Fitting, mask};
 ghost use Rattle.table.specs.Views.{view};
 
+use crate::report::Accepted;
 use crate::value::Value;
 use readings::number::Number;
 use readings::ports::Ports;
 use std::alloc::{AllocError, Global};
 use std::fmt;
+use step::lengths::block_length;
 use step::open::{broken_in, open};
 use table::fault::Fault;
 use table::kind::Kind;
-use table::limits::REGISTERS;
 use table::node::Node;
 use table::table::Checked;
 
-// Fills the block with what `switch` starts with.
-fn fill(kind: Kind, table: &Checked<'_>, switch: usize, block: &mut [u32]) -> Result<(), Fault>
-    ensures { block.new ≡ open_block (words_by kind) (view table.now) switch block.old }
-{
-    match kind {
-        Kind::Numbers => open::<Number>(table, switch, block),
-        Kind::Ports => open::<Ports>(table, switch, block),
-    }
-}
-
-// The block that `switch` starts with.
-fn block_of(
-    heap: Global,
-    kind: Kind,
-    table: &Checked<'_>,
-    switch: usize,
-) -> Result<Vec<u32>, AllocError>
-    requires { switch < (view table.now).switches }
-    ensures value { IfOk result (λ v. v.items ≡ opened (words_by kind) (view table.now) switch) }
-    ensures fitting { IfOk result (λ v. Fitting (view table.now) switch v.items) }
-{
-    let length = table.switches() * (table.nodes().len() + 1) + REGISTERS;
-    let mut block = vec![in heap; 0; length]?;
-    let _ = fill(kind, table, switch, &mut block);
-    Ok(block)
-}
-
-// The words of the own record in a block.
-fn own_words<'a>(table: &Checked<'_>, switch: usize, block: &'a [u32]) -> &'a [u32]
-    requires { Fitting (view table.now) switch block.now }
-    ensures { result.now ≡ record_words (length (view table.now).nodes) block.now switch }
-{
-    let nodes = table.nodes().len();
-    let at = switch * (nodes + 1) + 1;
-    &block[at..at + nodes]
+// One switch of an accepted table.
+#[derive(Clone, Copy)]
+pub struct Switch<'a, 'b> {
+    pub kind: Kind,
+    pub table: &'a Checked<'b>,
+    pub number: usize,
+    ghost there: { number < (view table.now).switches },
 }
 
 // What a switch starts with.
@@ -64,20 +37,46 @@ pub struct Opening {
     pub broken: u32,
 }
 
-impl Opening {
-    pub fn of(
-        heap: Global,
-        kind: Kind,
-        table: &Checked<'_>,
-        switch: usize,
-    ) -> Result<Opening, AllocError>
-        requires { switch < (view table.now).switches }
-        ensures words { IfOk result (λ o. o.words.items ≡ first_words kind (view table.now) switch) }
-        ensures broken { IfOk result (λ o. o.broken ≡ mask switch (first_words kind (view table.now) switch) (view table.now).rules) }
+impl Switch<'_, '_> {
+    // Fills the block with what the switch starts with. A match: a kind of reading is a type, and no value stands for it.
+    fn fill(self, block: &mut [u32]) -> Result<(), Fault>
+        ensures { block.new ≡ open_block (words_by self.entry.kind) (view self.entry.table.now) self.entry.number block.old }
     {
-        let block = block_of(heap, kind, table, switch)?;
-        let words = own_words(table, switch, &block).to_vec(heap)?;
-        let broken = broken_in(table, switch, &block).unwrap_or(0);
+        match self.kind {
+            Kind::Numbers => open::<Number>(self.table, self.number, block),
+            Kind::Ports => open::<Ports>(self.table, self.number, block),
+        }
+    }
+
+    // The block that the switch starts with.
+    fn block(self, heap: Global) -> Result<Vec<u32>, AllocError>
+        ensures value { IfOk result (λ v. v.items ≡ opened (words_by self.entry.kind) (view self.entry.table.now) self.entry.number) }
+        ensures fitting { IfOk result (λ v. Fitting (view self.entry.table.now) self.entry.number v.items) }
+    {
+        let mut block = vec![in heap; 0; block_length(self.table)]?;
+        // It fails at no block of this length.
+        let _ = self.fill(&mut block);
+        Ok(block)
+    }
+
+    // The words of the own record in a block.
+    fn own_words<'c>(self, block: &'c [u32]) -> &'c [u32]
+        requires { Fitting (view self.table.now) self.number block.now }
+        ensures { result.now ≡ record_words (length (view self.entry.table.now).nodes) block.now self.entry.number }
+    {
+        let nodes = self.table.nodes().len();
+        let at = self.number * (nodes + 1) + 1;
+        &block[at..at + nodes]
+    }
+
+    // What the switch starts with.
+    pub fn opening(self, heap: Global) -> Result<Opening, AllocError>
+        ensures words { IfOk result (λ o. o.words.items ≡ first_words self.entry.kind (view self.entry.table.now) self.entry.number) }
+        ensures broken { IfOk result (λ o. o.broken ≡ mask self.entry.number (first_words self.entry.kind (view self.entry.table.now) self.entry.number) (view self.entry.table.now).rules) }
+    {
+        let block = self.block(heap)?;
+        let words = self.own_words(&block).to_vec(heap)?;
+        let broken = broken_in(self.table, self.number, &block).unwrap_or(0);
         Ok(Opening { words, broken })
     }
 }
@@ -109,12 +108,10 @@ fn write_value<W: fmt::Write>(
 
 impl fmt::Display for State<'_> {
     fn fmt<W: fmt::Write>(&self, f: &mut fmt::Formatter<W>) -> fmt::Result {
-        for (number, node) in self.nodes.iter().enumerate() {
-            if let Some(word) = self.words.get(number) {
-                let between = if number == 0 { "" } else { ", " };
-                write!(f, "{between}n{number} = ")?;
-                write_value(self.kind, *node, *word, f)?;
-            }
+        for (number, (node, word)) in self.nodes.iter().zip(self.words).enumerate() {
+            let between = if number == 0 { "" } else { ", " };
+            write!(f, "{between}n{number} = ")?;
+            write_value(self.kind, *node, *word, f)?;
         }
         Ok(())
     }
@@ -130,39 +127,44 @@ pub struct Broken {
 
 impl fmt::Display for Broken {
     fn fmt<W: fmt::Write>(&self, f: &mut fmt::Formatter<W>) -> fmt::Result {
-        let switch = self.switch;
-        let mut rest = self.mask;
-        for rule in 0..32u32 {
-            if rest % 2 == 1 {
-                write!(f, "  rule {rule} at switch {switch}\n")?;
-            }
-            rest = rest / 2;
+        let Broken { switch, mask } = *self;
+        for rule in (0..u32::BITS).filter(|rule| mask >> *rule & 1 == 1) {
+            write!(f, "  rule {rule} at switch {switch}\n")?;
         }
         Ok(())
     }
 }
 
-// What is printed of the openings of an accepted table.
-pub fn text(heap: Global, kind: Kind, table: &Checked<'_>) -> Result<String, AllocError> {
-    let nodes = table.nodes();
-    let mut states = String::new(heap);
-    let mut rules = String::new(heap);
-    for switch in 0..table.switches() {
-        let opening = Opening::of(heap, kind, table, switch)?;
-        let state = State {
-            kind,
-            nodes,
-            words: opening.words.as_slice(),
-        };
-        let broken = Broken {
-            switch,
-            mask: opening.broken,
-        };
-        states.push_str(format!(in heap; "  switch {switch}: {state}\n")?.as_str())?;
-        rules.push_str(format!(in heap; "{broken}")?.as_str())?;
+impl Accepted<'_, '_> {
+    // What is printed of its openings.
+    pub fn opening_text(self, heap: Global) -> Result<String, AllocError> {
+        let Accepted { kind, table } = self;
+        let nodes = table.nodes();
+        let mut states = String::new(heap);
+        let mut rules = String::new(heap);
+        // By number: there is no list of switches.
+        for number in 0..table.switches() {
+            let switch = Switch {
+                kind,
+                table,
+                number,
+            };
+            let opening = switch.opening(heap)?;
+            let state = State {
+                kind,
+                nodes,
+                words: opening.words.as_slice(),
+            };
+            let broken = Broken {
+                switch: number,
+                mask: opening.broken,
+            };
+            write!(states, "  switch {number}: {state}\n")?;
+            write!(rules, "{broken}")?;
+        }
+        if rules.is_empty() {
+            rules.push_str("  none\n")?;
+        }
+        format!(in heap; "\nopening\n{states}broken at the start\n{rules}")
     }
-    if rules.is_empty() {
-        rules.push_str("  none\n")?;
-    }
-    format!(in heap; "\nopening\n{states}broken at the start\n{rules}")
 }

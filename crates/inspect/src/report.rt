@@ -26,21 +26,7 @@ pub struct Summary {
     pub length: usize,
 }
 
-impl Summary {
-    pub fn of(kind: Kind, table: &Checked<'_>) -> Summary
-        ensures { result ≡ summary_of kind (view table.now) }
-    {
-        Summary {
-            kind,
-            code: table.code(),
-            switches: table.switches(),
-            nodes: table.nodes().len(),
-            rules: table.rules().len(),
-            length: table.length(),
-        }
-    }
-}
-
+// No `Display`: the kind is another crate's type, and the name this program's.
 fn kind_name(kind: Kind) -> &'static str
     ensures { result.now ≡ kind_name kind }
 {
@@ -54,12 +40,15 @@ impl fmt::Display for Summary {
     ghost output = { λ s. Some (summary_text s) };
 
     fn fmt<W: fmt::Write>(&self, f: &mut fmt::Formatter<W>) -> fmt::Result {
-        let kind = kind_name(self.kind);
-        let code = self.code;
-        let switches = self.switches;
-        let nodes = self.nodes;
-        let rules = self.rules;
-        let length = self.length;
+        let Summary {
+            kind,
+            code,
+            switches,
+            nodes,
+            rules,
+            length,
+        } = *self;
+        let kind = kind_name(kind);
         write!(
             f,
             "table accepted\nkind      {kind} (code {code})\nswitches  {switches}\nnodes     {nodes}\nrules     {rules}\nbytes     {length}",
@@ -67,17 +56,44 @@ impl fmt::Display for Summary {
     }
 }
 
-// An accepted table's nodes, rules and starting words.
+// An accepted table. It is displayed as its nodes, rules and starting words.
 #[derive(Clone, Copy)]
-pub struct Listing<'a, 'b> {
+pub struct Accepted<'a, 'b> {
     pub kind: Kind,
     pub table: &'a Checked<'b>,
 }
 
-impl Listing<'_, '_> {
+impl Accepted<'_, '_> {
+    pub fn summary(self) -> Summary
+        ensures { result ≡ summary_of self.entry.kind (view self.entry.table.now) }
+    {
+        let Accepted { kind, table } = self;
+        Summary {
+            kind,
+            code: table.code(),
+            switches: table.switches(),
+            nodes: table.nodes().len(),
+            rules: table.rules().len(),
+            length: table.length(),
+        }
+    }
+
+    // What is printed of it, without what the switches start with.
+    pub fn text(self, heap: Global, print: bool) -> Result<String, AllocError>
+        ensures { print ≡ false → IfOk result (λ s. string_bytes s ≡ summary_text (summary_of self.entry.kind (view self.entry.table.now)) ++ newline) }
+    {
+        let summary = self.summary();
+        if print {
+            format!(in heap; "{summary}\n{self}")
+        } else {
+            format!(in heap; "{summary}\n")
+        }
+    }
+
     fn write_nodes<W: fmt::Write>(&self, f: &mut fmt::Formatter<W>) -> fmt::Result {
         let nodes = self.table.nodes();
         f.write_str("\nnodes\n")?;
+        // The numbers are what is printed, and the formulas take them.
         for node in 0..nodes.len() {
             let formula = Formula {
                 kind: self.kind,
@@ -108,16 +124,15 @@ impl Listing<'_, '_> {
 
     fn write_starts<W: fmt::Write>(&self, f: &mut fmt::Formatter<W>) -> fmt::Result {
         f.write_str("\nstarting words\n")?;
+        // By number: there is no list of switches.
         for switch in 0..self.table.switches() {
             write!(f, "  switch {switch}:")?;
-            for register in 0..REGISTERS {
-                if let Some(word) = self.table.starting_word(switch, register) {
-                    let value = Value {
-                        kind: self.kind,
-                        word,
-                    };
-                    write!(f, " {value}")?;
-                }
+            for word in (0..REGISTERS).filter_map(|r| self.table.starting_word(switch, r)) {
+                let value = Value {
+                    kind: self.kind,
+                    word,
+                };
+                write!(f, " {value}")?;
             }
             f.write_str("\n")?;
         }
@@ -125,7 +140,7 @@ impl Listing<'_, '_> {
     }
 }
 
-impl fmt::Display for Listing<'_, '_> {
+impl fmt::Display for Accepted<'_, '_> {
     fn fmt<W: fmt::Write>(&self, f: &mut fmt::Formatter<W>) -> fmt::Result {
         self.write_nodes(f)?;
         self.write_rules(f)?;
@@ -133,7 +148,7 @@ impl fmt::Display for Listing<'_, '_> {
     }
 }
 
-// What a refusal's place is, in the words before it.
+// What a refusal's place is, in the words before it. No `Display`, since a reason, another crate's type, has two texts here.
 fn subject(reason: Reason) -> &'static str
     ensures { result.now ≡ subject reason }
 {
@@ -143,15 +158,7 @@ fn subject(reason: Reason) -> &'static str
         Reason::Node => "node",
         Reason::Rule => "rule",
         // A table's check has no other reason.
-        Reason::Shape => "place",
-        Reason::Shut => "place",
-        Reason::Switch => "place",
-        Reason::Operand => "place",
-        Reason::Full => "place",
-        Reason::NotHeld => "place",
-        Reason::Count => "place",
-        Reason::Copy => "place",
-        Reason::Events => "place",
+        _ => "place",
     }
 }
 
@@ -164,15 +171,7 @@ fn complaint(reason: Reason) -> &'static str
         Reason::TableField => " is out of range or names a foreign kind",
         Reason::Node => " is not allowed: its kind, a switch, a register or a node that it names",
         Reason::Rule => " names a switch that the table lacks, or a node that is no truth node",
-        Reason::Shape => " is refused",
-        Reason::Shut => " is refused",
-        Reason::Switch => " is refused",
-        Reason::Operand => " is refused",
-        Reason::Full => " is refused",
-        Reason::NotHeld => " is refused",
-        Reason::Count => " is refused",
-        Reason::Copy => " is refused",
-        Reason::Events => " is refused",
+        _ => " is refused",
     }
 }
 
@@ -186,30 +185,12 @@ impl fmt::Display for Refusal {
     ghost output = { λ x. Some (refusal_text x.fault) };
 
     fn fmt<W: fmt::Write>(&self, f: &mut fmt::Formatter<W>) -> fmt::Result {
-        let reason = self.fault.reason;
-        let place = self.fault.place;
+        let Fault { reason, place } = self.fault;
         let number = reason.number();
         let before = subject(reason);
         let after = complaint(reason);
         write!(f, "table refused {number} {place}\n{before} {place}{after}")
     }
-}
-
-// What is printed of an accepted table.
-pub fn accepted(
-    heap: Global,
-    kind: Kind,
-    table: &Checked<'_>,
-    print: bool,
-) -> Result<String, AllocError>
-    ensures { print ≡ false → IfOk result (λ s. string_bytes s ≡ summary_text (summary_of kind (view table.now)) ++ newline) }
-{
-    let summary = Summary::of(kind, table);
-    if !print {
-        return format!(in heap; "{summary}\n");
-    }
-    let listing = Listing { kind, table };
-    format!(in heap; "{summary}\n{listing}")
 }
 
 // What is printed of a refused table.

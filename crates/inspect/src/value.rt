@@ -1,7 +1,7 @@
 // A reading as a person reads it: a number in decimal, or a set of ports as `{0, 3, 7}`.
-ghost use Rattle.inspect.specs.Values.{port_text, ports_text, value_text};
-ghost use Rattle.std.specs.Fmt.{WritesOnOk};
-ghost use Rattle.std.specs.Prelude.{Some};
+ghost use Rattle.inspect.specs.Values.{ports_text, value_text};
+ghost use Rattle.readings.specs.Ports.{has, port_count};
+ghost use Rattle.std.specs.Prelude.{◌≡◌, ◌<◌, Some};
 
 use readings::number::Number;
 use readings::reading::Reading;
@@ -21,21 +21,13 @@ pub struct PortList {
     pub bits: u32,
 }
 
-// Writes a port that is in the set, after a comma where it is not the first.
-fn write_port<W: fmt::Write>(
-    port: u32,
-    there: bool,
-    first: bool,
-    f: &mut fmt::Formatter<W>,
-) -> fmt::Result
-    ensures { WritesOnOk W.write_str_gives f.old result (port_text there first port) f.new }
-{
-    if !there {
-        write!(f, "")
-    } else if first {
-        write!(f, "{port}")
-    } else {
-        write!(f, ", {port}")
+impl PortList {
+    #[tactic(auto, using(crate::proofs::PortSteps::has_shifted))]
+    fn has(self, port: u32) -> bool
+        requires { port < port_count }
+        ensures { result ≡ has self.bits port }
+    {
+        self.bits >> port & 1 == 1
     }
 }
 
@@ -44,13 +36,12 @@ impl fmt::Display for PortList {
 
     fn fmt<W: fmt::Write>(&self, f: &mut fmt::Formatter<W>) -> fmt::Result {
         f.write_str("{")?;
-        let mut rest = self.bits;
-        let mut first = true;
-        for port in 0..32u32 {
-            let there = rest % 2 == 1;
-            write_port(port, there, first, f)?;
-            first = first & !there;
-            rest = rest / 2;
+        let mut between = "";
+        for port in 0..u32::BITS {
+            if self.has(port) {
+                write!(f, "{between}{port}")?;
+                between = ", ";
+            }
         }
         f.write_str("}")
     }

@@ -1,8 +1,8 @@
-use Rattle.std.proofs.Common.{leb, refl, ap, ◌∙◌}
+use Rattle.std.proofs.Common.{nat_le, refl, ap, ◌∙◌}
 use Rattle.std.specs.Fmt.{HasWritten}
 use Rattle.inspect.specs.Forms.{body_text, form_strength, formula_text, rank_of}
 use Rattle.inspect.proofs.Formulas.{operand_text, prefixed, infixed, suffixed, placed, assembled}
-use Rattle.inspect.proofs.Writing.{put_is, put_more}
+use Rattle.std.proofs.Output.{has_written_append, has_written_of_eq}
 use Rattle.inspect.proofs.formula.+show.Goals as goal
 
 pub returns : goal.returns
@@ -13,12 +13,11 @@ returns g t c plain ok =
     let d = c.args.formula.depth in
     let x = c.form-form.result in
     let part = operand_text k nodes d in
-    let first = c.write_opening.new.f in
+    let first = c.write_bracket.new.f in
     let last = c.match-form.f in
     let strong = c.strength-strength.ensures in
-    let rank = c.rank.ensures ∙ ap rank_of strong in
-    let around = c.rank-2.ensures in
-    let opened = c.in_ok-write_opening.ensures plain refl in
+    let tested = c.is_bracketed-bracketed.ensures ∙ ap (λ s. nat_le (rank_of s) (rank_of c.args.around)) strong in
+    let opened = c.in_ok-write_bracket.ensures plain refl in
     let body : HasWritten took first (body_text k x part) last =
     elim c.match-form.branch [
       | goal.in-Truth+in_ok-write-in-Truth w ↦
@@ -35,8 +34,8 @@ returns g t c plain ok =
           let one = w.in_ok-write-in-Prefix.ensures.writes opened.plain refl in
           let two = w.in_ok-show-in-Prefix.ensures one.plain refl in
           placed took k part x _ first last _ w.in-Prefix.is w.f-is
-          (put_is took _ _ _ _ (prefixed _ _ _ _ w.word-word.ensures (λ i. formula_text (o.kind i) (o.nodes i) (o.depth i) (o.node i) (at i)))
-          (put_more took _ _ _ _ _ one two))
+          (has_written_of_eq took _ _ _ _ (prefixed _ _ _ (λ i. formula_text (o.kind i) (o.nodes i) (o.depth i) (o.node i) (at i)))
+          (has_written_append took _ _ _ _ _ one two))
       | goal.in-Infix+in_ok-show-in-Infix+in_ok-write-in-Infix+in_ok-show-in-Infix-2 w ↦
           let o = w.operand-in-Infix.ensures in
           let q = w.operand-in-Infix-2.ensures in
@@ -45,18 +44,18 @@ returns g t c plain ok =
           let two = w.in_ok-write-in-Infix.ensures.writes one.plain refl in
           let three = w.in_ok-show-in-Infix-2.ensures two.plain refl in
           placed took k part x _ first last _ w.in-Infix.is w.f-is
-          (put_is took _ _ _ _
-          (infixed _ _ _ _ _ _ (λ i. formula_text (o.kind i) (o.nodes i) (o.depth i) (o.node i) (at i)) w.word-word-in-Infix.ensures
+          (has_written_of_eq took _ _ _ _
+          (infixed _ _ _ _ _ _ (λ i. formula_text (o.kind i) (o.nodes i) (o.depth i) (o.node i) (at i)) w.word-word.ensures
           (λ i. formula_text (q.kind i) (q.nodes i) (q.depth i) (q.node i) (at i)))
-          (put_more took _ _ _ _ _ one (put_more took _ _ _ _ _ two three)))
+          (has_written_append took _ _ _ _ _ one (has_written_append took _ _ _ _ _ two three)))
       | goal.in-At+in_ok-show-in-At+in_ok-write-in-At w ↦
           let o = w.operand-in-At.ensures in
           let at = strong ∙ ap form_strength w.in-At.is in
           let one = w.in_ok-show-in-At.ensures opened.plain refl in
           let two = w.in_ok-write-in-At.ensures.writes one.plain refl in
           placed took k part x _ first last _ w.in-At.is w.f-is
-          (put_is took _ _ _ _ (suffixed _ _ _ (λ i. formula_text (o.kind i) (o.nodes i) (o.depth i) (o.node i) (at i)))
-          (put_more took _ _ _ _ _ one two))
+          (has_written_of_eq took _ _ _ _ (suffixed _ _ _ (λ i. formula_text (o.kind i) (o.nodes i) (o.depth i) (o.node i) (at i)))
+          (has_written_append took _ _ _ _ _ one two))
     ] in
-    assembled took k nodes d c.args.formula.node c.args.around x _ c.args.f.now first last c.write_closing.new.f
-    c.form-form.ensures.value c.form-form.ensures.deep (λ i. leb (rank i) (around i)) opened body (c.write_closing.ensures body.plain ok)
+    assembled took k nodes d c.args.formula.node c.args.around x _ c.args.f.now first last c.write_bracket-2.new.f
+    c.form-form.ensures.value c.form-form.ensures.deep tested opened body (c.write_bracket-2.ensures body.plain ok)
