@@ -61,7 +61,7 @@ impl Format {
         12 + self.switches * (8 + 4 * self.nodes)
     }
 
-    // Where record `j` begins, in the words of a hand after its sender.
+    // Where record `j` begins, in the words of a hand after its sender. By hand, as the step's own `Records` is private to its crate.
     #[tactic(auto, using(crate::proofs::Rows::row_room))]
     pub(crate) fn start_in_hand(self, j: usize) -> usize
         requires { j < self.switches }

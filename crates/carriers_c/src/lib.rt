@@ -1,4 +1,5 @@
-// The static library of the copy check, for firmware in C.
+// The static library of the copy check, for firmware in C. The library's call once more, since a crate is a
+// library or a static library.
 #![tactic(auto)]
 
 ghost use Rattle.carriers.specs.CopyCalls.{check_answer};

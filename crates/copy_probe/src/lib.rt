@@ -9,7 +9,7 @@ ghost use Rattle.std.specs.Prelude.{◌≡◌};
 use carriers::copy::{read, write};
 use table::fault::Fault;
 
-// Whether the codec went well, 0, or the number of the refusal.
+// Whether the codec went well, 0, or the number of the refusal. Not the table's `answered`: its callers get the number alone.
 fn outcome(r: Result<(), Fault>) -> u32
     ensures { result ≡ reason_number r }
 {

@@ -38,7 +38,7 @@ impl<'a, 'b> Blocks<'a, 'b> {
         switch * block_length(self.table)
     }
 
-    // Word `i` of what `switch` knows of the switch `of`.
+    // Word `i` of what `switch` knows of the switch `of`. By hand, as the step's own `Records` is private to its crate.
     pub(crate) fn word(&self, switch: usize, of: usize, i: usize) -> u32
         requires there { switch < (view self.now.table.now).switches }
         requires known { of < (view self.now.table.now).switches }

@@ -59,7 +59,7 @@ impl Switch<'_, '_> {
         Ok(block)
     }
 
-    // The words of the own record in a block.
+    // The words of the own record in a block. By hand, as the step's own `Records` is private to its crate.
     fn own_words<'c>(self, block: &'c [u32]) -> &'c [u32]
         requires { Fitting (view self.table.now) self.number block.now }
         ensures { result.now ≡ record_words (length (view self.entry.table.now).nodes) block.now self.entry.number }

@@ -22,7 +22,7 @@ use table::table::Checked;
 // The copies that the fleet's carrier can hold.
 pub const POOL_COPIES: usize = 16;
 
-// The words of a fleet's memory.
+// The words of a fleet's memory: one product, for which the fleet has no call.
 fn memory_length(table: &Checked) -> usize
     ensures { result ≡ (view table.now).switches * block_length (view table.now).switches (length (view table.now).nodes) }
 {
@@ -84,7 +84,7 @@ impl Place {
 pub struct Rehearsed {
     // One answer for each call.
     pub replies: Vec<Result<Reply, Fault>>,
-    // What each switch knows of each node of each switch at the end, or nothing.
+    // What each switch knows of each node of each switch at the end, or nothing: one list, as it is printed.
     pub known: Vec<Known>,
 }
 
@@ -122,6 +122,7 @@ impl<'w, 'a> Workspace<'w, 'a> {
             of as u32,
             node as u32,
         );
+        // Zeros where a look finds nothing, as `rehearse` promises them; so no `Option`.
         found.unwrap_or(Known { count: 0, word: 0 })
     }
 

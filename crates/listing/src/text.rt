@@ -55,7 +55,8 @@ impl fmt::Display for Line {
     }
 }
 
-// Writes a line to the end of a text.
+// Writes a line to the end of a text. Not one function with `push_entry`: over `Display` it would need a clause on the output of
+// its type, for this one line.
 fn push_line(text: &mut String, line: Line) -> Result<(), AllocError>
     ensures { OnOk result (string_bytes text.new ≡ string_bytes text.old ++ (line_text line.line line.call line.reply ++ newline)) }
 {

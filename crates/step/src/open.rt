@@ -122,7 +122,7 @@ impl Block<'_, '_> {
 }
 
 // Admits the block and the switch, or says why they do not fit the table.
-fn admit(table: &Checked, switch: usize, block: &[u32]) -> Result<(), Reason>
+pub(crate) fn admit(table: &Checked, switch: usize, block: &[u32]) -> Result<(), Reason>
     ensures value { result ≡ refused_by (open_refusal (view table.now) switch block.now) }
     ensures admitted { OnOk result (Fitting (view table.now) switch block.now) }
 {

@@ -11,7 +11,8 @@ ghost use Rattle.table.specs.Views.{view};
 
 use crate::advance::Outcome;
 use crate::block::Block;
-use crate::lengths::{block_length, hand_length};
+use crate::lengths::hand_length;
+use crate::open;
 use crate::records::Records;
 use readings::reading::Reading;
 use table::fault::{Fault, Reason};
@@ -66,17 +67,15 @@ impl Block<'_, '_> {
     }
 }
 
-// Admits the step, or says why it cannot be made. Not `open`'s test and then the rest: the hand's length comes before the switch.
+// Admits the step, or says why it cannot be made.
 fn admit(table: &Checked, switch: usize, event: Event, block: &[u32]) -> Result<(), Reason>
     ensures value { result ≡ refused_by (step_refusal (view table.now) switch (act_of event.entry) block.now) }
     ensures admitted { OnOk result (Admitted (view table.now) switch (act_of event.entry) block.now) }
 {
-    if block.len() != block_length(table) || !hand_fits(event, hand_length(table)) {
+    if !hand_fits(event, hand_length(table)) {
         return Err(Reason::Shape);
     }
-    if switch >= table.switches() {
-        return Err(Reason::Switch);
-    }
+    open::admit(table, switch, block)?;
     if !register_fits(event) {
         return Err(Reason::Operand);
     }

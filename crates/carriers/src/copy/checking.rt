@@ -43,7 +43,7 @@ fn read_below(reader: &mut CopyReader, limit: u32) -> Result<u32, Fault>
     Ok(word)
 }
 
-// The next `count` fields, whatever their values; see `read_words` of the table.
+// The next `count` fields, whatever their values. Not shared with the table's `read_words`: a copy's law says each field by itself.
 fn check_words(reader: &mut CopyReader, count: usize) -> Result<(), Fault>
     ensures value { result ≡ each_read (λ i. field Copy reader.old.bytes.now (reader.old.at + i * 4)) count }
     ensures reader { Advanced reader.old reader.new (is_ok result) (count * 4) }

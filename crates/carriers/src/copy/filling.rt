@@ -7,6 +7,7 @@ ghost use Rattle.step.specs.Records.{hand_length, record_length};
 use crate::format::Format;
 use byteorder::{BigEndian, ByteOrder};
 
+// Hand and bytes come from the caller, and the methods ask for their lengths: a struct of both would be made for one call.
 impl Format {
     // A record, without the words' count.
     fn take_record(self, bytes: &[u8], words: &mut [u32])

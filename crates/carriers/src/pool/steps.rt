@@ -8,7 +8,7 @@ ghost use Rattle.step.specs.Records.{hand_length};
 use crate::places::Places;
 use crate::pool::Pool;
 
-// A place is a number, for which each method asks, as an index is.
+// The places lie in one slice, since the memory is lent; a place is a number, for which each method asks, as an index is.
 impl<'a, P: Places> Pool<'a, P> {
     // Where a place begins.
     fn start(&self, place: usize) -> usize

@@ -9,7 +9,8 @@ use crate::sight::Sight;
 use readings::reading::Reading;
 use table::node::Node;
 
-// A truth's word: `u32::from`, under the name by which the formulas' definitions call it.
+// A truth's word: `u32::from`. A name of its own is plainer in the ten arms below than the conversion, whose target they would
+// have to write.
 fn truth_word(b: bool) -> u32
     ensures { result ≡ truth_word b }
 {

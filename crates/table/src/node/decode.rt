@@ -34,7 +34,8 @@ fn register(index: usize, rest: u32) -> Option<Node>
     }
 }
 
-// A truth node that `earlier` has at `a`.
+// A truth node that `earlier` has at `a`. Two functions, as the definitions have two: one with the sort as a parameter would be
+// called with true or false, which says less than a name.
 #[tactic(auto, using(std::proofs::lemmas::List::get_or_read), unfolding(crate::specs::Nodes::truth_node))]
 fn truth_node(earlier: &[Node], a: usize) -> bool
     ensures { result ≡ truth_node earlier.now a }

@@ -6,7 +6,7 @@ ghost use Rattle.table.specs.Wire.{between, field, refuse, tested_field, word_at
 use crate::fault::Fault;
 use crate::reader::{Reader, Refusals};
 
-// The word at offset `at`. Not by `byteorder`, whose clause says the number otherwise: every use would need a lemma.
+// The word at offset `at`. By the standard library's call: `byteorder` would be one more library, and a lemma, for this one line.
 #[tactic(auto, unfolding(crate::specs::Wire::word_at))]
 pub(crate) fn word(bytes: &[u8], at: usize) -> u32
     requires { at + 4 ≤ length bytes.now }
