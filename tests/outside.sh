@@ -53,6 +53,18 @@ compile_codec() {
     gcc -w -O1 -g $tirpc -c "$out/copy_codec.c" -o "$out/copy_codec.o"
 }
 
+# What an archive does not define firmware has to bring: it must be the names given here, and no others.
+expect_needs() { # ARCHIVE NAME...
+    local archive=$1 needs
+    shift
+    needs=$(nm -u "$directory/$archive" | sed -n 's/^ *U //p' | sort -u | xargs)
+    if [ "$needs" != "$*" ]; then
+        echo "outside: $archive needs '$needs' from outside, where '$*' is wanted" >&2
+        exit 1
+    fi
+    echo "$archive needs from outside: ${needs:-nothing}"
+}
+
 install_packages
 mkdir -p "$out"
 
@@ -64,6 +76,9 @@ libraries=
 for archive in $archives; do
     libraries="$libraries $directory/$archive"
 done
+
+expect_needs libtable.a memset
+expect_needs libcarriers.a
 
 sanitizers=$(sanitizer_flags)
 compile_codec

@@ -9,8 +9,8 @@ use readings::reading::Reading;
 use table::fault::Reason;
 use table::table::Checked;
 
-// Whether a fleet of this kind can be opened on these: they have the table's shape, and the carrier is new.
-pub fn fit<K: Reading, C: Carrier>(
+// Admits a fleet of this kind on these: they have the table's shape, and the carrier is new.
+pub(crate) fn admit<K: Reading, C: Carrier>(
     table: &Checked,
     memory: &[u32],
     hand: &[u32],
@@ -24,5 +24,21 @@ pub fn fit<K: Reading, C: Carrier>(
         Ok(())
     } else {
         Err(Reason::Shape)
+    }
+}
+
+// 0 where a fleet of this kind can be opened on these, and else the number of the refusal.
+pub fn fit<K: Reading, C: Carrier>(
+    table: &Checked,
+    memory: &[u32],
+    hand: &[u32],
+    carrier: &C,
+) -> u32
+    ensures number { C.sound carrier.now → result ≡ fit_answer K.CODE (view table.now) (state memory.now hand.now (C.meaning carrier.now)) }
+    ensures lengths { result ≡ 0 → Sized (view table.now) memory.now hand.now }
+{
+    match admit::<K, C>(table, memory, hand, carrier) {
+        Ok(()) => 0,
+        Err(reason) => reason.number(),
     }
 }

@@ -1,5 +1,5 @@
 // What is printed of a rehearsal.
-ghost use Rattle.listing.specs.Texts.{event_text, line_text, listing_text, newline, refusal_text};
+ghost use Rattle.listing.specs.Texts.{copy_text, event_text, line_text, listing_text, newline, refusal_text};
 ghost use Rattle.std.specs.Prelude.{◌≡◌, ◌++◌, IfOk, Some, string_bytes, OnOk};
 ghost use Rattle.std.specs.Fmt.{WritesOnOk};
 
@@ -10,6 +10,23 @@ use std::fmt;
 use table::fault::Fault;
 
 const HEADING: &str = "line switch count broken number\n";
+
+// The number of a send's copy.
+#[derive(Clone, Copy, Debug, PartialEq)]
+pub struct Copied {
+    pub number: Option<u32>,
+}
+
+impl fmt::Display for Copied {
+    ghost output = { λ c. Some (copy_text c.number) };
+
+    fn fmt<W: fmt::Write>(&self, f: &mut fmt::Formatter<W>) -> fmt::Result {
+        match self.number {
+            Some(number) => write!(f, "{number}"),
+            None => write!(f, "-"),
+        }
+    }
+}
 
 // A call with its answer, and the number of its line.
 #[derive(Clone, Copy, Debug, PartialEq)]
@@ -33,10 +50,8 @@ fn write_event<W: fmt::Write>(
         broken,
         number,
     } = reply;
-    match number {
-        Some(number) => write!(f, "{line} {switch} {count} {broken} {number}"),
-        None => write!(f, "{line} {switch} {count} {broken} -"),
-    }
+    let copied = Copied { number };
+    write!(f, "{line} {switch} {count} {broken} {copied}")
 }
 
 impl fmt::Display for Line {

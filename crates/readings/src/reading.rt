@@ -1,5 +1,5 @@
 // What a register holds, for every kind of reading.
-ghost use Rattle.std.specs.Prelude.{◌≡◌, ℕ, ◌^◌, ◌<◌};
+ghost use Rattle.std.specs.Prelude.{◌≡◌, ℕ, ◌^◌, ◌<◌, ◌==◌};
 ghost use Rattle.readings.specs.Kinds.{Kind};
 
 // A kind of reading. Its meaning stands in the ghost members; each function equals one part of `kind`.
@@ -14,6 +14,13 @@ pub trait Reading: Copy {
 
     // What the functions compute.
     ghost kind: { Kind Self };
+
+    // Whether `w` is this kind's code.
+    fn native(w: u32) -> bool
+        ensures { result ≡ (w == CODE) }
+    {
+        w == Self::CODE
+    }
 
     // Not `From<u32>`: its contract is a relation, and this one says the kind's own function. So for `to_word`.
     fn from_word(w: u32) -> Self

@@ -1,6 +1,6 @@
 // The delivered kinds of reading, picked by a table's code.
 ghost use Rattle.std.specs.Prelude.{◌≡◌, ◌≤◌, false, is_ok, IfOk, IfErr};
-ghost use Rattle.table.specs.Delivered.{delivered, delivered_front, kind_code, named_by};
+ghost use Rattle.table.specs.Delivered.{delivered, delivered_front, kind_code, kind_of, named_by};
 ghost use Rattle.table.specs.Tables.{longest_table};
 ghost use Rattle.table.specs.Views.{view};
 ghost use Rattle.table.specs.Wire.{counted};
@@ -30,6 +30,15 @@ impl TryFrom<u32> for Kind {
             Ports::CODE => Ok(Kind::Ports),
             _ => Err(Reason::TableField),
         }
+    }
+}
+
+impl Kind {
+    // The delivered kind with this code.
+    pub fn of_code(code: u32) -> Option<Kind>
+        ensures { result ≡ kind_of code }
+    {
+        Kind::try_from(code).ok()
     }
 }
 

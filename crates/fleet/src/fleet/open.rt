@@ -5,7 +5,7 @@ ghost use Rattle.table.specs.Views.{view};
 ghost use Rattle.std.specs.Prelude.{◌≡◌};
 
 use crate::blocks::open_blocks;
-use crate::fit::fit;
+use crate::fit;
 use crate::fleet::Fleet;
 use carriers::carrier::Carrier;
 use readings::reading::Reading;
@@ -24,7 +24,7 @@ impl<'a, K: Reading, C: Carrier> Fleet<'a, K, C> {
         ensures carrier { result.carrier ≡ carrier }
         ensures fleet { C.sound carrier → Opened K.CODE (on_words K.kind) (view table.now) (state memory.old hand.now (C.meaning carrier)) memory.new result.live }
     {
-        let live = fit::<K, C>(table, memory, hand, &carrier).is_ok();
+        let live = fit::admit::<K, C>(table, memory, hand, &carrier).is_ok();
         if live {
             open_blocks::<K>(table, memory);
         }

@@ -11,6 +11,7 @@ use crate::kind::Kind;
 use crate::reader::Reader;
 use crate::table::parse::{TableRefusals, read_all_rules, read_header, read_nodes, read_starts};
 use crate::table::{Checked, Draft};
+use arrayvec::ArrayVec;
 use readings::reading::Reading;
 
 impl<'a> Draft<'a> {
@@ -42,8 +43,10 @@ fn read_table<'a, K: Reading>(bytes: &'a [u8]) -> Result<Checked<'a>, Fault>
     let mut reader = Reader::new(bytes, TableRefusals);
     let header = read_header::<K>(&mut reader)?;
     let switches = header.switches;
-    let nodes = read_nodes(&mut reader, switches, header.nodes)?;
-    let rules = read_all_rules(&mut reader, switches, &nodes)?;
+    let mut nodes = ArrayVec::new();
+    read_nodes(&mut reader, switches, header.nodes, &mut nodes)?;
+    let mut rules = ArrayVec::new();
+    read_all_rules(&mut reader, switches, &nodes, &mut rules)?;
     read_starts(&mut reader, switches, nodes.len(), rules.len())?;
     let end = reader.offset();
     Ok(Checked {

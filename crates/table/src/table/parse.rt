@@ -1,5 +1,5 @@
 // Reads the parts of a rule table, in their order.
-ghost use Rattle.std.specs.Prelude.{◌≡◌, ℕ, ◌+◌, ◌*◌, ◌≤◌, List, [], length, is_ok, IfOk, Result};
+ghost use Rattle.std.specs.Prelude.{◌≡◌, ℕ, ◌+◌, ◌*◌, ◌≤◌, List, [], length, is_ok, IfOk, OnOk, Result};
 ghost use Rattle.table.specs.Limits.{max_nodes, max_rules, max_switches, register_count};
 ghost use Rattle.table.specs.Readers.{Advanced};
 ghost use Rattle.table.specs.Tables.{header_of, items_from, judged, node_at, node_size, nodes_from, nodes_start, rule_at, rule_size, rules_of, rules_start, starts_of, starts_start, words_at, words_from};
@@ -109,38 +109,42 @@ impl Element for Rule {
     }
 }
 
-// The next `count` elements. Reader, switches and nodes are no struct: the nodes come in once the reader has read them.
+// Fills the array with the next `count` elements. Reader, switches and nodes are no struct: the nodes come in once the reader has
+// read them. The array is lent: one in the answer would be moved twice, which takes longer than to read a small table, and firmware
+// would have to bring `memcpy` for it.
 fn read_array<T: Element, const N: usize>(
     reader: &mut TableReader,
     switches: usize,
     nodes: &[Node],
     count: usize,
-) -> Result<ArrayVec<T, N>, Fault>
+    array: &mut ArrayVec<T, N>,
+) -> Result<(), Fault>
     requires { count ≤ N }
-    ensures value { counted result (λ array. array.items) ≡ items_from (T.read switches nodes.now reader.old.bytes.now) T.size reader.old.at count [] }
-    ensures many { IfOk result (λ array. length array.items ≡ count) }
+    ensures value { filled result array.new.items ≡ items_from (T.read switches nodes.now reader.old.bytes.now) T.size reader.old.at count [] }
+    ensures many { OnOk result (length array.new.items ≡ count) }
     ensures reader { Advanced reader.old reader.new (is_ok result) (count * T.size) }
 {
-    let mut array = ArrayVec::new();
+    array.clear();
     for _i in 0..count {
-        let element = T::read(reader, switches, nodes, &array)?;
+        let element = T::read(reader, switches, nodes, array)?;
         array.push(element);
     }
-    Ok(array)
+    Ok(())
 }
 
-// The next `count` nodes.
+// Fills `nodes` with the next `count` nodes.
 pub(crate) fn read_nodes(
     reader: &mut TableReader,
     switches: usize,
     count: usize,
-) -> Result<Nodes, Fault>
+    nodes: &mut Nodes,
+) -> Result<(), Fault>
     requires { count ≤ max_nodes }
-    ensures value { counted result (λ nodes. nodes.items) ≡ nodes_from switches reader.old.bytes.now reader.old.at count [] }
-    ensures many { IfOk result (λ nodes. length nodes.items ≡ count) }
+    ensures value { filled result nodes.new.items ≡ nodes_from switches reader.old.bytes.now reader.old.at count [] }
+    ensures many { OnOk result (length nodes.new.items ≡ count) }
     ensures reader { Advanced reader.old reader.new (is_ok result) (count * node_size) }
 {
-    read_array::<Node, 48>(reader, switches, &[], count)
+    read_array::<Node, 48>(reader, switches, &[], count, nodes)
 }
 
 // Reads past `count` words. Not shared with the check of a copy, which says each field by itself: the table's law says the
@@ -168,20 +172,21 @@ pub(crate) fn read_header<K: Reading>(reader: &mut TableReader) -> Result<Header
     Ok(Header { switches, nodes })
 }
 
-// The rules' count, and the rules.
+// Reads the rules' count, and fills `rules` with the rules.
 pub(crate) fn read_all_rules(
     reader: &mut TableReader,
     switches: usize,
     nodes: &[Node],
-) -> Result<Rules, Fault>
+    rules: &mut Rules,
+) -> Result<(), Fault>
     requires { reader.old.at ≡ nodes_start + length nodes.now * node_size }
-    ensures value { counted result (λ rules. rules.items) ≡ rules_of switches nodes.now reader.old.bytes.now }
-    ensures few { IfOk result (λ rules. length rules.items ≤ max_rules) }
+    ensures value { filled result rules.new.items ≡ rules_of switches nodes.now reader.old.bytes.now }
+    ensures few { OnOk result (length rules.new.items ≤ max_rules) }
     ensures bytes { reader.new.bytes.now ≡ reader.old.bytes.now }
-    ensures at { IfOk result (λ rules. reader.new.at ≡ reader.old.at + (4 + length rules.items * rule_size)) }
+    ensures at { OnOk result (reader.new.at ≡ reader.old.at + (4 + length rules.new.items * rule_size)) }
 {
     let count = reader.field_between(0, MAX_RULES)? as usize;
-    read_array::<Rule, 16>(reader, switches, nodes, count)
+    read_array::<Rule, 16>(reader, switches, nodes, count, rules)
 }
 
 // Reads past the starting words' count and the words.

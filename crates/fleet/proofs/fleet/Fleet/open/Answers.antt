@@ -14,7 +14,7 @@ returns-clause-fleet g c = λ sound.
     let t = view c.args.table.now in
     let before = state c.args.memory.now c.args.hand.now (g.C.Carrier.meaning c.args.carrier) in
     opened_as g.K.Reading.CODE k t before c.if-live.memory c.is_ok-live.result
-    (c.is_ok-live.ensures.value ∙ accepted (shapes.fits g.K.Reading.CODE t before) c.fit.result (c.fit.ensures.number sound))
+    (c.is_ok-live.ensures.value ∙ accepted (shapes.fits g.K.Reading.CODE t before) c.admit.result (c.admit.ensures.number sound))
     (λ lives. elim c.if-live.branch [
       | then-live w ↦ w.memory-is ∙ w.open_blocks.ensures
       | else-live w ↦ let not = w.if-live.false in let z : ◌≡◌ {A = ℕ} 0 1 = cc in absurd (omega arith)
