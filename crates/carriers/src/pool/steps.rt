@@ -8,7 +8,8 @@ ghost use Rattle.step.specs.Records.{hand_length};
 use crate::places::Places;
 use crate::pool::Pool;
 
-// The places lie in one slice, since the memory is lent; a place is a number, for which each method asks, as an index is.
+// The places lie in one slice, since the memory is lent; a place is a number, for which each method asks, as an index is. What is
+// done to a place that was searched for is not inlined: the search then works out nothing else beside the place.
 impl<'a, P: Places> Pool<'a, P> {
     // Where a place begins.
     fn start(&self, place: usize) -> usize
@@ -65,6 +66,7 @@ impl<'a, P: Places> Pool<'a, P> {
     }
 
     // Puts a copy into a free place, under the next number.
+    #[inline(never)]
     pub(crate) fn hold(&mut self, place: usize, hand: &[u32])
         requires within { place < self.old.shape.capacity }
         requires free { P.flags self.old.shape self.old.memory.now place ≡ 0 }
@@ -83,6 +85,7 @@ impl<'a, P: Places> Pool<'a, P> {
     }
 
     // Frees a place.
+    #[inline(never)]
     pub(crate) fn free(&mut self, place: usize)
         requires { place < self.old.shape.capacity }
         ensures places { Released (P.flags self.old.shape self.old.memory.now) (P.flags self.new.shape self.new.memory.now) (P.copies self.old.shape self.old.memory.now) (P.copies self.new.shape self.new.memory.now) self.old.shape.capacity place }
@@ -95,6 +98,7 @@ impl<'a, P: Places> Pool<'a, P> {
     }
 
     // Fills the hand with the copy of a place.
+    #[inline(never)]
     pub(crate) fn load(&self, place: usize, hand: &mut [u32])
         requires within { place < self.now.shape.capacity }
         requires hand { length hand.old ≡ hand_length self.now.shape.switches self.now.shape.nodes }

@@ -97,6 +97,7 @@ impl Node {
     }
 
     // Whether the node names only switches that there are and earlier nodes of the right sort.
+    #[inline(always)]
     pub fn fits(self, switches: usize, earlier: &[Node]) -> bool
         ensures { result ≡ node_fits switches earlier.now self }
     {

@@ -44,6 +44,7 @@ pub struct Header {
 }
 
 // The node, if it may stand after those of `earlier`.
+#[inline(always)]
 fn judge(node: Option<Node>, switches: usize, earlier: &[Node]) -> Result<Node, Fault>
     ensures { result ≡ judged switches earlier.now (length earlier.now) node }
 {
@@ -75,6 +76,7 @@ impl Element for Node {
 
     ghost read = { λ switches _ bytes at earlier. node_at switches bytes at earlier };
 
+    #[inline(always)]
     fn read(
         reader: &mut TableReader,
         switches: usize,
@@ -111,7 +113,9 @@ impl Element for Rule {
 
 // Fills the array with the next `count` elements. Reader, switches and nodes are no struct: the nodes come in once the reader has
 // read them. The array is lent: one in the answer would be moved twice, which takes longer than to read a small table, and firmware
-// would have to bring `memcpy` for it.
+// would have to bring `memcpy` for it. Inlined, with what it calls for a node: its length is then known where it was made, and not
+// read back from memory.
+#[inline(always)]
 fn read_array<T: Element, const N: usize>(
     reader: &mut TableReader,
     switches: usize,
@@ -133,6 +137,7 @@ fn read_array<T: Element, const N: usize>(
 }
 
 // Fills `nodes` with the next `count` nodes.
+#[inline(always)]
 pub(crate) fn read_nodes(
     reader: &mut TableReader,
     switches: usize,
