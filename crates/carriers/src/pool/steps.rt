@@ -9,7 +9,7 @@ use crate::places::Places;
 use crate::pool::Pool;
 
 // The places lie in one slice, since the memory is lent; a place is a number, for which each method asks, as an index is. What is
-// done to a place that was searched for is not inlined: the search then works out nothing else beside the place.
+// done to a place that was searched for is not inlined, for speed: the search then works out nothing else beside the place.
 impl<'a, P: Places> Pool<'a, P> {
     // Where a place begins.
     fn start(&self, place: usize) -> usize

@@ -96,7 +96,8 @@ impl Node {
         }
     }
 
-    // Whether the node names only switches that there are and earlier nodes of the right sort.
+    // Whether the node names only switches that there are and earlier nodes of the right sort. Inlined where a table is read, for
+    // speed.
     #[inline(always)]
     pub fn fits(self, switches: usize, earlier: &[Node]) -> bool
         ensures { result ≡ node_fits switches earlier.now self }

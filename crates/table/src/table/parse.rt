@@ -113,8 +113,8 @@ impl Element for Rule {
 
 // Fills the array with the next `count` elements. Reader, switches and nodes are no struct: the nodes come in once the reader has
 // read them. The array is lent: one in the answer would be moved twice, which takes longer than to read a small table, and firmware
-// would have to bring `memcpy` for it. Inlined, with what it calls for a node: its length is then known where it was made, and not
-// read back from memory.
+// would have to bring `memcpy` for it. Inlined, with what it calls for a node, for speed: the array's length is then known where
+// the array was made, and not read back from memory.
 #[inline(always)]
 fn read_array<T: Element, const N: usize>(
     reader: &mut TableReader,
